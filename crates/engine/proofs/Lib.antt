@@ -1,0 +1,9 @@
+pub mod BitLaws
+pub mod Filling
+pub mod Numbers
+pub mod BitMoves
+pub mod WordBits
+pub mod Rotations
+pub mod Blocks
+pub mod Laws
+pub mod Granted
