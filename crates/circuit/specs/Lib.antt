@@ -1,0 +1,4 @@
+pub mod Planes
+pub mod Moves
+pub mod Packed
+pub mod Kinds
