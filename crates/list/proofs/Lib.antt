@@ -1,0 +1,10 @@
+pub mod Filling
+pub mod Fronts
+pub mod Granted
+pub mod Inserted
+pub mod Last
+pub mod Laws
+pub mod Neighbours
+pub mod Rises
+pub mod Scans
+pub mod Shifts

@@ -1,0 +1,4 @@
+pub mod Faults
+pub mod Insertion
+pub mod Keeping
+pub mod Order
