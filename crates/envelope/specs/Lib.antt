@@ -1,0 +1,10 @@
+pub mod Faults
+pub mod Letters
+pub mod Terms
+pub mod Heads
+pub mod Parts
+pub mod Pens
+pub mod Takings
+pub mod Envelopes
+pub mod Calls
+pub mod Theorems
