@@ -60,10 +60,10 @@ fn one_bid(
     let mut place = [0u8; ENVELOPE_BYTES];
     match pen.take(bidder) {
         Err(f) => refused(rt, f),
-        Ok(head) => match seal_bid(
+        Ok(taken) => match seal_bid(
             &ENGINE,
             key,
-            head,
+            taken,
             amount,
             note,
             &mut place[0..size.min(ENVELOPE_BYTES)],

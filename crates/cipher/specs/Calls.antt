@@ -19,6 +19,10 @@ size-checks v key nonce ad text tag-place others =
     (eqb (length key) 16, KeyLength) ∷ ((eqb (length nonce) 12, NonceLength) ∷ ((leb (length ad) 65536, AssociatedDataLength)
     ∷ ((leb (length text) 65536, TextLength) ∷ ((eqb (length tag-place) (tag-bytes v), TagLength) ∷ others))))
 
+-- A key: 16 bytes.
+abbrev pub key-answer : List ℕ → Result (Unit {0}) CipherFault
+key-answer key = decided ((eqb (length key) 16, KeyLength) ∷ []) tt
+
 -- Sealing: the sizes, and then an output of the text's length.
 abbrev pub seal-answer : Variant → List ℕ → List ℕ → List ℕ → List ℕ → List ℕ → List ℕ → Result (Unit {0}) CipherFault
 seal-answer v key nonce ad text out tag-place =

@@ -16,5 +16,6 @@ pub use checked::check;
 pub use faults::CipherFault;
 pub use faults::CipherFromEngine;
 pub use sealing::seal;
+pub use sizes::check_key;
 pub use sizes::tag_bytes;
 pub use theorems::cipher_laws_stand;

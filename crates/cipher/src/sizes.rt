@@ -3,7 +3,7 @@ ghost use mathlib.Core.Path.{_≡_};
 ghost use mathlib.Core.List.{[]};
 ghost use Rattle.fault.specs.Checks.{decided};
 ghost use Rattle.cipher.specs.Mode.{tag-bytes};
-ghost use Rattle.cipher.specs.Calls.{size-checks};
+ghost use Rattle.cipher.specs.Calls.{key-answer, size-checks};
 use crate::faults::CipherFault;
 use engine::Variant;
 
@@ -28,6 +28,16 @@ pub fn tag_bytes(variant: Variant) -> usize
     }
 }
 
+// The check of a key.
+pub fn check_key(key: &[u8]) -> Result<(), CipherFault>
+    ensures { λ r. ⌜ r ≡ key-answer (now (key .entry)) ⌝ }
+{
+    if key.len() != KEY_BYTES {
+        return Err(CipherFault::KeyLength);
+    }
+    Ok(())
+}
+
 // The checks of sizes that sealing and checking share, in their order.
 pub(crate) fn check_sizes(
     variant: Variant,
@@ -39,9 +49,7 @@ pub(crate) fn check_sizes(
 ) -> Result<(), CipherFault>
     ensures { λ r. ⌜ r ≡ decided (size-checks variant (now (key .entry)) (now (nonce .entry)) (now (associated .entry)) (now (text .entry)) (now (tag .entry)) []) tt ⌝ }
 {
-    if key.len() != KEY_BYTES {
-        return Err(CipherFault::KeyLength);
-    }
+    check_key(key)?;
     if nonce.len() != NONCE_BYTES {
         return Err(CipherFault::NonceLength);
     }

@@ -7,7 +7,7 @@ ghost use Rattle.std.specs.declared.result.Result.the-variants.{Ok};
 ghost use Rattle.fault.specs.Checks.{left};
 ghost use Rattle.envelope.specs.Terms.{terms-bytes};
 ghost use Rattle.envelope.specs.Envelopes.{envelope-bytes, enveloped, bid};
-ghost use Rattle.envelope.specs.Calls.{key-answer, bid-answer};
+ghost use Rattle.envelope.specs.Calls.{bid-answer};
 use crate::faults::EnvelopeFault;
 use crate::faults::EnvelopeFromCipher;
 use crate::heads::HEAD_BYTES;
@@ -18,13 +18,12 @@ use crate::letters::MOST_CENTS;
 use crate::letters::MOST_NOTE_BYTES;
 use crate::letters::write_letter;
 use crate::terms::MOST_TERMS_BYTES;
-use cipher::CipherFault;
+use cipher::check_key;
 use cipher::seal;
 use cipher::tag_bytes;
 use engine::Engine;
 use engine::Variant;
 
-const KEY_BYTES: usize = 16;
 // The longest tag of all variants.
 const MOST_TAG_BYTES: usize = 16;
 // Where the tag stands in an envelope.
@@ -92,16 +91,6 @@ fn check_bid(
     }
     if amount > MOST_CENTS {
         return Err(EnvelopeFault::AmountAboveLimit);
-    }
-    Ok(())
-}
-
-// The cipher's check of a key.
-fn check_key(key: &[u8]) -> Result<(), CipherFault>
-    ensures { λ r. ⌜ r ≡ key-answer (now (key .entry)) ⌝ }
-{
-    if key.len() != KEY_BYTES {
-        return Err(CipherFault::KeyLength);
     }
     Ok(())
 }
