@@ -1,4 +1,4 @@
--- What the moves of bits in words do.
+-- What the moves of bits in words do: the terms of the contracts between the functions of this crate.
 use mathlib.Core.Path.{_≡_}
 use mathlib.Core.Bool.{false, _&&_, cond}
 use Prim.Native.Nat.{ℕ, _+_, _-_, _<_}

@@ -1,4 +1,4 @@
--- A block in words, one after another.
+-- A block in words that are numbers, one after another.
 use mathlib.Core.Bool.{Bool}
 use mathlib.Core.List.{List}
 use Prim.Native.Nat.{ℕ, _/_, _%_}

@@ -1,4 +1,4 @@
--- Blocks in words, and what the steps of a round do to them.
+-- Blocks in words, and what the steps of a round do to them: the terms of the contracts between the functions of this crate.
 use mathlib.Core.Path.{_≡_}
 use mathlib.Core.Bool.{Bool, false}
 use mathlib.Core.List.{List, [], _∷_}

@@ -50,6 +50,7 @@ fn lane(p: Planes<u64x4>, i: usize) -> Planes<u64>
     Planes { a, b, c, d }
 }
 
+// Four neighbouring blocks of 4 * WIDTH bits, one in each lane.
 fn load_four<const WIDTH: u32>(blocks: &[u8]) -> Planes<u64x4>
     requires { ⌜ Wide WIDTH ⌝ ∗ ⌜ length (now blocks) ≡ 4 * (WIDTH / 2) ⌝ }
     ensures { λ r. ⌜ ((i : ℕ) → i < 4 → Holds WIDTH (of-block four-at r i) (bits (take (WIDTH / 2) (drop (i * (WIDTH / 2)) (now (blocks .entry)))))) ⌝ }

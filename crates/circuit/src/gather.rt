@@ -1,4 +1,6 @@
 // Gathering the bits of a block: word t gets the bits t, t + 4, t + 8 and on, so that each place has a half byte.
+// First the block is laid out in four rows by sequences of 16 bits, row r with the sequences r, r + 4 and r + 8; then bits change
+// places between rows.
 ghost use Prim.Native.Nat.{ℕ, _<_};
 ghost use Rattle.circuit.specs.Moves.{Lowered, Raised, Crossed};
 ghost use Rattle.circuit.specs.Planes.{Wide, of-block, InRows, Unzipped, Gathered};
@@ -21,6 +23,7 @@ fn cut_up<W: Word>(x: W, n: u32, mask: u64) -> W
     x.up(n).and(W::all(mask))
 }
 
+// Two words.
 #[derive(Clone, Copy)]
 struct Pair<W> {
     lo: W,
@@ -78,7 +81,8 @@ fn rows44<W: Word>(p: Planes<W>) -> Planes<W>
     Planes { a, b, c, d }
 }
 
-// The planes of four rows.
+// Gathers the bits of four rows. The first four exchanges swap bits 2 and 3 of a bit's place in its row with the row's number,
+// and the others bits 0 and 1.
 fn unzip<W: Word>(r: Planes<W>) -> Planes<W>
     ensures { λ p. ⌜ ((i : ℕ) → Unzipped (of-block at r i) (of-block at p i)) ⌝ }
 {
@@ -98,7 +102,7 @@ fn unzip<W: Word>(r: Planes<W>) -> Planes<W>
     }
 }
 
-// The planes of a block in words of WIDTH bits, 40 or 44.
+// Gathers the bits of a block in words of WIDTH bits, 40 or 44.
 pub(crate) fn gather<W: Word, const WIDTH: u32>(p: Planes<W>) -> Planes<W>
     requires { ⌜ Wide WIDTH ⌝ }
     ensures { λ r. ⌜ ((i : ℕ) → Gathered WIDTH (of-block at p i) (of-block at r i)) ⌝ }

@@ -34,7 +34,7 @@ fn add_counter<W: Word, const WIDTH: u32>(p: Planes<W>, c: u8) -> Planes<W>
     }
 }
 
-// One round. The planes that come out of the circuit, one after another, are the block with its bits moved.
+// One round. The words that come out of the circuit, one after another, are the block with its bits moved.
 fn one_round<W: Word, const WIDTH: u32>(p: Planes<W>, c: u8) -> Planes<W>
     requires { ⌜ Wide WIDTH ⌝ ∗ ⌜ c < 128 ⌝ }
     ensures { λ r. ⌜ ((i : ℕ) (bs : List Bool) → length bs ≡ WIDTH * 4 → Holds WIDTH (of-block at p i) bs → Holds WIDTH (of-block at r i) (round c bs)) ⌝ }
@@ -44,6 +44,7 @@ fn one_round<W: Word, const WIDTH: u32>(p: Planes<W>, c: u8) -> Planes<W>
     substitute(g)
 }
 
+// All rounds of Spongent on blocks in words of WIDTH bits, where the counter starts at `first`.
 pub(crate) fn all_rounds<W: Word, const WIDTH: u32>(
     p: Planes<W>,
     first: u8,

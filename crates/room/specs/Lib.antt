@@ -1,0 +1,13 @@
+pub mod Faults
+pub mod Sales
+pub mod Page
+pub mod Places
+pub mod Rooms
+pub mod Calls
+pub mod Admission
+pub mod Slots
+pub mod Making
+pub mod Opening
+pub mod Runs
+pub mod Promise
+pub mod Examples
