@@ -12,7 +12,6 @@ use Rattle.envelope.specs.Letters.{amount-in}
 use Rattle.envelope.proofs.Laws.{amount-in-le}
 use Rattle.room.specs.Sales.{Bytes, Sale, Standing-amount, registered}
 use Rattle.room.specs.Page.{page}
-use Rattle.room.specs.Runs.{lodged, sale}
 use Rattle.room.specs.declared.sheet.SheetEntry.{SheetEntry}
 use Rattle.room.proofs.Law.{Kept, amount-for, sheet-by, page-for}
 use Rattle.room.proofs.Holding.{Held, Holds, amount-of-held, amount-one}

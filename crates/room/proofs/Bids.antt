@@ -1,7 +1,7 @@
 -- The envelope of a granted sealing is genuine, and opens to the amount that was sealed.
-use mathlib.Core.Path.{_≡_, refl, sym, _∙_, ap, subst}
+use mathlib.Core.Path.{_≡_, sym, _∙_, ap, subst}
 use mathlib.Core.List.{List, [], _∷_}
-use Prim.Native.Nat.{ℕ, _≤_, _<_}
+use Prim.Native.Nat.{ℕ, _≤_}
 use lib.Dec.{eqb, leb}
 use lib.ListN.{length}
 use Rattle.std.proofs.shelf.Tests.{leb-true}
@@ -9,7 +9,7 @@ use Rattle.fault.specs.Checks.{Check}
 use Rattle.cipher.specs.declared.faults.CipherFault.the-variants.{KeyLength}
 use Rattle.envelope.specs.Letters.{letter, amount-in, most-cents, most-note-bytes}
 use Rattle.envelope.specs.Heads.{lot-of, bidder-of, sequence-of}
-use Rattle.envelope.specs.Envelopes.{bid, envelope-bytes, tag-part, right-tag, letter-of}
+use Rattle.envelope.specs.Envelopes.{envelope-bytes, tag-part, right-tag, letter-of}
 use Rattle.envelope.specs.declared.faults.EnvelopeFault.{EnvelopeFault}
 use Rattle.envelope.specs.declared.faults.EnvelopeFault.the-variants.{EnvelopeLength, NoteLength, AmountAboveLimit, Cipher}
 use Rattle.envelope.proofs.Laws as laws

@@ -1,26 +1,23 @@
 -- The program's rooms keep the rules: what each call promises is a step of them, and so a chain of calls is a run.
 use mathlib.Core.Path.{_≡_, refl, sym, _∙_, ap, ap₂, subst, fun-ext}
-use mathlib.Core.Bool.{Bool, true, false, cond, _&&_}
+use mathlib.Core.Bool.{Bool, true, false, cond}
 use mathlib.Core.List.{List, [], _∷_, map}
-use Prim.Native.Nat.{ℕ, suc, _≤_, _<_}
+use Prim.Native.Nat.{ℕ, suc, _≤_}
 use native.Mathlib.Omega.{arith}
-use lib.Dec.{eqb, leb, ltb}
+use lib.Dec.{eqb, ltb}
 use lib.ListN.{length}
-use Rattle.std.specs.declared.option.Option.{Option}
-use Rattle.std.specs.declared.option.Option.the-variants.{Some, None}
+use Rattle.std.specs.declared.option.Option.the-variants.{Some}
 use Rattle.std.specs.declared.result.Result.the-variants.{Ok, Err}
 use Rattle.std.specs.shelf.Lists.{All}
 use Rattle.std.proofs.shelf.Tests.{eqb-true, eqb-false, eq-eqb, ne-eqb, both-ways}
 use Rattle.fault.specs.Checks.{left}
 use Rattle.engine.specs.declared.variants.Variant.{Variant}
-use Rattle.envelope.specs.Heads.{bidder-of, sequence-of}
-use Rattle.room.specs.Sales.{Bytes, Sale, Genuine, registered, key-of}
+use Rattle.envelope.specs.Heads.{bidder-of}
+use Rattle.room.specs.Sales.{Bytes, Sale, registered, key-of}
 use Rattle.room.specs.Page.{page}
-use Rattle.room.specs.Rooms.{Holding, Contents, entry-of, register-of, sale-of, kept-for, sequence-in, accepted, contents}
+use Rattle.room.specs.Rooms.{Holding, Contents, entry-of, register-of, sale-of, kept-for, accepted, contents}
 use Rattle.room.specs.Calls.{Call, Lodging, Asking, Closing, Opening, Answer, Met, amount-held, amount-of, listed, page-of, lodging-checks, answer-to, room-after, holding}
 use Rattle.room.specs.Runs.{Meeting, met, Runs, none, more, calls-of}
-use Rattle.room.specs.declared.register.RegisterEntry.{RegisterEntry}
-use Rattle.room.specs.declared.sheet.SheetEntry.{SheetEntry}
 use Rattle.room.specs.declared.slots.Phase.{Phase}
 use Rattle.room.specs.declared.slots.Phase.the-variants.{Open, Closed}
 use Rattle.room.specs.declared.state.RoomState.{RoomState}

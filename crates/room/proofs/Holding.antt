@@ -3,7 +3,7 @@ use mathlib.Core.Path.{_≡_, refl, sym, _∙_, ap, subst}
 use mathlib.Core.Logic.{_⊎_, inl, inr, ⊎-elim}
 use mathlib.Core.Bool.{Bool, true, false, cond}
 use mathlib.Core.List.{List, [], _∷_, _++_, append-nil, append-assoc}
-use Prim.Native.Nat.{ℕ, zero, suc, _+_, _≤_, _<_}
+use Prim.Native.Nat.{ℕ, zero, suc, _≤_, _<_}
 use native.Mathlib.Omega.{arith}
 use lib.Dec.{eqb}
 use lib.ListN.{length}
@@ -11,17 +11,15 @@ use Rattle.std.specs.declared.option.Option.{Option}
 use Rattle.std.specs.declared.option.Option.the-variants.{Some, None}
 use Rattle.std.specs.declared.result.Result.the-variants.{Ok, Err}
 use Rattle.std.specs.Finite.{nth}
-use Rattle.std.specs.shelf.Text.{sameBytes}
 use Rattle.std.proofs.shelf.Equals.{sameBytes-decides}
 use Rattle.std.proofs.shelf.Tests.{eqb-true, eqb-false, cases-lt, cond-true}
 use Rattle.envelope.specs.Letters.{amount-in}
 use Rattle.envelope.specs.Heads.{bidder-of, sequence-of}
-use Rattle.envelope.specs.Envelopes.{tag-part, right-tag, letter-of}
-use Rattle.room.specs.Sales.{Bytes, Sale, Genuine, Standing, Standing-amount, key-of, opened-letter}
+use Rattle.room.specs.Sales.{Bytes, Sale, Genuine, Standing, Standing-amount, opened-letter}
 use Rattle.room.specs.Rooms.{sequence-in}
 use Rattle.room.specs.Calls.{Call, Lodging, Asking, Closing, Opening, Answer}
 use Rattle.room.specs.Runs.{lodged}
-use Rattle.room.proofs.Law.{Kept, Stage, Taking, Ended, kept-in, nothing, verdict, settled, amount-for, next, after, meetings}
+use Rattle.room.proofs.Law.{Kept, Taking, Ended, kept-in, nothing, verdict, settled, amount-for, after, meetings}
 use Rattle.room.proofs.Verdicts.{granted, grants}
 
 -- Places in a list with one more at its end.

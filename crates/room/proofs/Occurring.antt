@@ -2,7 +2,7 @@
 use mathlib.Core.Path.{_≡_, refl, sym, _∙_, ap, subst}
 use mathlib.Core.Logic.{_⊎_, inl, inr, ⊎-elim}
 use mathlib.Core.List.{List, [], _∷_, _++_}
-use Prim.Native.Nat.{ℕ, zero, suc, _+_, _≤_}
+use Prim.Native.Nat.{ℕ, zero, suc, _≤_}
 use native.Mathlib.Omega.{arith}
 use lib.ListN.{replicate}
 use Rattle.std.specs.Finite.{nth}
@@ -11,7 +11,6 @@ use Rattle.std.specs.declared.result.Result.the-variants.{Ok, Err}
 use Rattle.engine.specs.declared.variants.Variant.{Variant}
 use Rattle.envelope.specs.Letters.{most-cents}
 use Rattle.envelope.specs.Heads.{sequence-of}
-use Rattle.envelope.specs.Envelopes.{bid}
 use Rattle.room.specs.Sales.{Bytes, Among}
 use Rattle.room.specs.Calls.{Call, Lodging, Asking, Closing, Opening}
 use Rattle.room.specs.Runs.{met, none, more, History, sale, envelopes, Stands}

@@ -1,12 +1,11 @@
 -- The worked examples: the definitions compute.
 use mathlib.Core.Path.{_≡_, refl, sym, _∙_, ap, ap₂}
-use mathlib.Core.Bool.{Bool, true, false, cond}
-use mathlib.Core.List.{List, [], _∷_, _++_, map}
-use Prim.Native.Nat.{ℕ, _+_, _-_, _*_, _/_, _^_, _≤_, _<_}
+use mathlib.Core.Bool.{cond}
+use mathlib.Core.List.{List, [], _∷_, map}
+use Prim.Native.Nat.{ℕ, _+_, _/_, _<_}
 use native.Mathlib.Omega.{arith}
 use lib.Dec.{ltb}
-use lib.Chars.{codes}
-use lib.ListN.{length, length-append, take, replicate}
+use lib.ListN.{length, length-append}
 use Rattle.std.specs.Written.{digits}
 use Rattle.std.proofs.shelf.Lists.{take-at}
 use Rattle.std.specs.shelf.Digits.{number}
@@ -17,18 +16,18 @@ use Rattle.cipher.specs.Masks.{phi1}
 use Rattle.cipher.specs.Mode.{closed}
 use Rattle.bytes.specs.Numbers.{bytes-of}
 use Rattle.bytes.proofs.Laws.{bytes-of-length}
-use Rattle.envelope.specs.Letters.{letter, lawful, amount-field, most-cents}
+use Rattle.envelope.specs.Letters.{letter, amount-field, most-cents}
 use Rattle.envelope.proofs.LetterLaws.{unlawful-amount}
 use Rattle.envelope.proofs.HeadLaws.{number-back}
 use Rattle.envelope.proofs.Laws.{letter-lawful}
 use Rattle.room.specs.Sales.{Bytes}
 use Rattle.room.specs.Page.{names, line, page}
 use Rattle.room.specs.Runs.{History, sale, envelopes, Is-closed, Stands, Prints}
-use Rattle.room.specs.Examples.{substituted-byte, dumbo-parts, Worked-examples}
+use Rattle.room.specs.Examples.{substituted-byte, dumbo-parts, page-17, Worked-examples}
 use Rattle.room.specs.declared.register.RegisterEntry.{RegisterEntry}
 use Rattle.room.specs.declared.sheet.SheetEntry.{SheetEntry}
-use Rattle.room.proofs.Law.{sheet-by, page-for}
-use Rattle.room.proofs.Amounts.{Left, amounts, amount-only}
+use Rattle.room.proofs.Law.{sheet-by}
+use Rattle.room.proofs.Amounts.{amounts, amount-only}
 use Rattle.room.proofs.Histories.{left-by}
 
 substitutes : (substituted-byte 0x1F ≡ 0xD6 ∷ []) × (substituted-byte 0x00 ≡ 0xEE ∷ [])
@@ -69,13 +68,13 @@ unfolding rows one-row
 four-rows f a b c d = λ i. one-row 3 (a i) (one-row 5 (b i) (one-row 8 (c i) (one-row 9 (d i) [])))
 
 page-text : page 17 (record { bidder = 3; amount = 250000 } ∷ record { bidder = 5; amount = 250000 } ∷ record { bidder = 8; amount = 310000 } ∷ [])
-    ≡ codes "lot,bidder,amount\n17,3,250000\n17,5,250000\n17,8,310000\n"
+    ≡ page-17
 unfolding page names line digits
 page-text = refl
 
 lot-17 : (x : History) → Is-closed x → x .lot ≡ 17 → map (λ e. e .bidder) (x .register) ≡ 3 ∷ 5 ∷ 8 ∷ 9 ∷ []
     → Stands x 3 250000 → Stands x 5 250000 → Stands x 8 310000 → Stands x 9 0
-    → (p : Bytes) → Prints x p → p ≡ codes "lot,bidder,amount\n17,3,250000\n17,5,250000\n17,8,310000\n"
+    → (p : Bytes) → Prints x p → p ≡ page-17
 lot-17 x c lot bidders a3 a5 a8 a9 p h =
     let l = left-by x c p h in
     let is : (b n : ℕ) → Stands x b n → amounts (sale x) (envelopes x) p l b ≡ n = λ b n s. sym (amount-only (sale x) (envelopes x) p l b n s) in
@@ -98,5 +97,6 @@ worked = record {
   eight-bytes-of-associated-data-have-two-parts = λ nonce associated a b. dumbo-part-count nonce associated 8 a b;
   the-limit-is-lawful = λ note h. letter-lawful 999999999999 note (omega arith) h;
   one-cent-more-is-not = λ note. sym (unlawful-amount (letter 1000000000000 note) (too-much note));
-  the-page-of-lot-17 = lot-17;
+  the-page-of-a-sheet-of-lot-17 = page-text;
+  rooms-of-lot-17-print-it = lot-17;
 }

@@ -14,6 +14,7 @@ use Rattle.cipher.specs.Masks.{phi1}
 use Rattle.cipher.specs.Mode.{closed}
 use Rattle.envelope.specs.Letters.{letter, lawful, most-note-bytes}
 use Rattle.room.specs.Sales.{Bytes}
+use Rattle.room.specs.Page.{page}
 use Rattle.room.specs.Runs.{History, Is-closed, Stands, Prints}
 
 -- A byte with its two half bytes substituted.
@@ -23,6 +24,10 @@ substituted-byte x = block 1 (substitute (bits (x ∷ [])))
 -- The parts that the nonce, associated data and a byte 01 have in Dumbo.
 abbrev pub dumbo-parts : Bytes → Bytes → ℕ
 dumbo-parts nonce associated = parts (block-bytes Dumbo) (length (nonce ++ closed associated))
+
+-- A page of lot 17.
+abbrev pub page-17 : Bytes
+page-17 = codes "lot,bidder,amount\n17,3,250000\n17,5,250000\n17,8,310000\n"
 
 pub record Worked-examples : Type 0 where
   pub byte-1F-substitutes-to-D6 : substituted-byte 0x1F ≡ 0xD6 ∷ []
@@ -38,8 +43,10 @@ pub record Worked-examples : Type 0 where
   pub eight-bytes-of-associated-data-have-two-parts : (nonce associated : Bytes) → length nonce ≡ 12 → length associated ≡ 8 → dumbo-parts nonce associated ≡ 2
   pub the-limit-is-lawful : (note : Bytes) → length note ≤ most-note-bytes → lawful (letter 999999999999 note) ≡ true
   pub one-cent-more-is-not : (note : Bytes) → lawful (letter 1000000000000 note) ≡ false
-  -- Lot 17 with standing amounts 310000 for bidder 8, 250000 for bidders 3 and 5, and a withdrawal by bidder 9.
-  pub the-page-of-lot-17 :
+  -- The page of lot 17 with 250000 for bidders 3 and 5 and 310000 for bidder 8 on the sheet.
+  pub the-page-of-a-sheet-of-lot-17 :
+      page 17 (record { bidder = 3; amount = 250000 } ∷ record { bidder = 5; amount = 250000 } ∷ record { bidder = 8; amount = 310000 } ∷ []) ≡ page-17
+  -- Every room of lot 17 with these standing amounts, and a withdrawal by bidder 9, prints that page.
+  pub rooms-of-lot-17-print-it :
       (x : History) → Is-closed x → x .lot ≡ 17 → map (λ e. e .bidder) (x .register) ≡ 3 ∷ 5 ∷ 8 ∷ 9 ∷ []
-      → Stands x 3 250000 → Stands x 5 250000 → Stands x 8 310000 → Stands x 9 0
-      → (p : Bytes) → Prints x p → p ≡ codes "lot,bidder,amount\n17,3,250000\n17,5,250000\n17,8,310000\n"
+      → Stands x 3 250000 → Stands x 5 250000 → Stands x 8 310000 → Stands x 9 0 → (p : Bytes) → Prints x p → p ≡ page-17

@@ -1,7 +1,6 @@
 -- Opening a room: what it writes to the places lent to it.
 use mathlib.Core.Path.{_≡_}
 use mathlib.Core.List.{List, _++_}
-use Prim.Native.Nat.{ℕ}
 use lib.ListN.{length, drop, replicate}
 use Rattle.fault.specs.Checks.{left}
 use Rattle.engine.specs.declared.variants.Variant.{Variant}
