@@ -19,11 +19,11 @@ use lib.ListN.{getD}
 use Rattle.room.specs.Page.{names, line, page}
 use Rattle.room.specs.Places.{written-at}
 
-pub wrote-one : (d : List ℕ) (at b : ℕ) → at < length d → set d at b ≡ written-at d at (b ∷ [])
-wrote-one d at b h = set-split d at b h ∙ rw add-one refl
+pub written-one : (d : List ℕ) (at b : ℕ) → at < length d → set d at b ≡ written-at d at (b ∷ [])
+written-one d at b h = set-split d at b h ∙ rw add-one refl
 
-pub wrote-more : (d : List ℕ) (at : ℕ) (s t : List ℕ) → at ≤ length d → written-at (written-at d at s) (at + length s) t ≡ written-at d at (s ++ t)
-wrote-more d at s t h =
+pub written-more : (d : List ℕ) (at : ℕ) (s t : List ℕ) → at ≤ length d → written-at (written-at d at s) (at + length s) t ≡ written-at d at (s ++ t)
+written-more d at s t h =
     sym (paste-all (written-at d at s) (at + length s) t (length t) refl)
     ∙ ap (λ z. paste z (at + length s) t (length t)) (sym (paste-all d at s (length s) refl))
     ∙ paste-paste d at s t (length s) (length t) refl refl h
@@ -39,23 +39,23 @@ more-digits n h f = ap length (decimal-step n h f) ∙ length-push (decimal (n /
 pub number-last : (d e : List ℕ) (at n m : ℕ) → 10 ≤ n → n < 2 ^ 64 → at + length (decimal n) ≤ length d → m ≡ at + length (decimal (n / 10)) → e ≡ written-at d at (decimal (n / 10)) → length e ≡ length d → set e m (48 + n % 10) ≡ written-at d at (decimal n)
 number-last d e at n m h f l em ee le =
     let k = more-digits n h f in
-    wrote-one e m (48 + n % 10) (omega arith)
+    written-one e m (48 + n % 10) (omega arith)
     ∙ ap (λ z. written-at z m ((48 + n % 10) ∷ [])) ee
     ∙ ap (λ z. written-at (written-at d at (decimal (n / 10))) z ((48 + n % 10) ∷ [])) em
-    ∙ wrote-more d at (decimal (n / 10)) ((48 + n % 10) ∷ []) (omega arith)
+    ∙ written-more d at (decimal (n / 10)) ((48 + n % 10) ∷ []) (omega arith)
     ∙ ap (written-at d at) (sym (decimal-step n h f))
 
 pub number-one : (d : List ℕ) (at n : ℕ) → n < 10 → at + length (decimal n) ≤ length d → set d at (48 + n) ≡ written-at d at (decimal n)
 number-one d at n h l =
     let k = one-digit n h in
-    wrote-one d at (48 + n) (omega arith) ∙ ap (written-at d at) (sym (decimal-digit n h))
+    written-one d at (48 + n) (omega arith) ∙ ap (written-at d at) (sym (decimal-digit n h))
 
 pub length-written-at : (d : List ℕ) (at : ℕ) (s : List ℕ) → at + length s ≤ length d → length (written-at d at s) ≡ length d
 length-written-at d at s h = simp (length-append, length-take, length-drop) (omega arith)
 
-pub wrote-then : (d e f : List ℕ) (at m : ℕ) (s t : List ℕ) → at ≤ length d → e ≡ written-at d at s → m ≡ at + length s → f ≡ written-at e m t → f ≡ written-at d at (s ++ t)
-wrote-then d e f at m s t h ee em ef =
-    ef ∙ ap (λ z. written-at z m t) ee ∙ ap (λ k. written-at (written-at d at s) k t) em ∙ wrote-more d at s t h
+pub written-then : (d e f : List ℕ) (at m : ℕ) (s t : List ℕ) → at ≤ length d → e ≡ written-at d at s → m ≡ at + length s → f ≡ written-at e m t → f ≡ written-at d at (s ++ t)
+written-then d e f at m s t h ee em ef =
+    ef ∙ ap (λ z. written-at z m t) ee ∙ ap (λ k. written-at (written-at d at s) k t) em ∙ written-more d at s t h
 
 pub written-none : (d : List ℕ) (at : ℕ) → d ≡ written-at d at []
 written-none d at = let e : at ≡ at + 0 = omega arith in sym (take-append-drop at d) ∙ ap (λ k. take at d ++ drop k d) e
@@ -100,7 +100,7 @@ page-length lot ps = length-append names (joined (line lot) ps)
 -- The names, and then the lines, are the page.
 pub page-written : (d e f : List ℕ) (m lot : ℕ) (ps : List SheetEntry) → e ≡ written-at d 0 names → m ≡ length names → f ≡ written-at e m (joined (line lot) ps) → f ≡ written-at d 0 (page lot ps)
 unfolding page
-page-written d e f m lot ps ee em ef = wrote-then d e f 0 m names (joined (line lot) ps) (omega arith) ee (omega (arith, em)) ef
+page-written d e f m lot ps ee em ef = written-then d e f 0 m names (joined (line lot) ps) (omega arith) ee (omega (arith, em)) ef
 
 pub names-written : (d ys : List ℕ) → ys ≡ codes "lot,bidder,amount\n" → ys ++ postOf 0 18 d ≡ written-at d 0 names
 unfolding names

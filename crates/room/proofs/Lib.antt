@@ -3,7 +3,9 @@ pub mod CodeChecks
 pub mod CodeSlots
 pub mod CodeLodging
 pub mod CodeMaking
-pub mod CodeOpening
+pub mod CodeTags
+pub mod CodeOffers
+pub mod CodeSheets
 pub mod Law
 pub mod Verdicts
 pub mod Holding

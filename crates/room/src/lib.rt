@@ -1,8 +1,10 @@
 // The room layer: sale rooms, where envelopes are lodged until closing and opened afterwards.
 mod admission;
 mod faults;
+mod guard;
 mod lodging;
 mod making;
+mod offers;
 mod opening;
 mod printing;
 mod register;
@@ -19,8 +21,6 @@ pub use register::RegisterEntryOrder;
 pub use room::Room;
 pub use sheet::SheetEntry;
 pub use sheet::SheetEntryOrder;
-pub use slots::Phase;
-pub use slots::Slot;
 pub use state::RoomState;
 pub use theorems::promise_stands;
 pub use theorems::worked_examples_stand;

@@ -3,6 +3,7 @@ ghost use mathlib.Core.Path.{_≡_};
 ghost use mathlib.Core.List.{[], _∷_};
 ghost use Prim.Native.Nat.{_≤_};
 ghost use lib.ListN.{length, take};
+ghost use Rattle.std.specs.declared.result.Result.the-variants.{Err};
 ghost use Rattle.std.specs.shelf.Text.{sameBytes};
 ghost use Rattle.fault.specs.Checks.{decided};
 ghost use Rattle.engine.specs.declared.variants.Variant.{Variant as Kind};
@@ -21,6 +22,7 @@ use crate::slots::TAG_AT;
 use crate::slots::filled;
 use crate::slots::place_of;
 use crate::state::RoomState;
+use cipher::CipherFault;
 use cipher::check;
 use engine::Engine;
 use engine::Variant;
@@ -150,14 +152,21 @@ fn check_tag<E: Engine>(
         &envelope[HEAD_BYTES..TAG_AT],
         &envelope[TAG_AT..],
     ) {
-        Err(cause) => Err(RoomFault::WrongTag {
-            bidder,
-            sequence,
-            cause,
-        }),
+        Err(cause) => refuse_tag(bidder, sequence, cause),
         Ok(text) => {
             let _ = text.into_sealed();
             Ok(())
         }
     }
+}
+
+// Tells at which head the cipher found a wrong tag.
+fn refuse_tag(bidder: u32, sequence: u32, cause: CipherFault) -> Result<(), RoomFault>
+    ensures { λ r. ⌜ r ≡ Err (Wrong-tag bidder sequence cause) ⌝ }
+{
+    Err(RoomFault::WrongTag {
+        bidder,
+        sequence,
+        cause,
+    })
 }

@@ -6,7 +6,7 @@ ghost use Rattle.room.specs.Making.{Made};
 ghost use Rattle.room.specs.Opening.{Opened};
 use crate::admission::Op;
 use crate::faults::RoomFault;
-use crate::opening::Guard;
+use crate::guard::Guard;
 use crate::opening::check_places;
 use crate::register::RegisterEntry;
 use crate::sheet::SheetEntry;

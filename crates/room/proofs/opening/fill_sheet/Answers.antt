@@ -7,7 +7,7 @@ use Rattle.std.proofs.shelf.Lists.{take-all}
 use Rattle.room.specs.Rooms.{no-slot}
 use Rattle.room.specs.Opening.{written-over}
 use Rattle.room.specs.Slots.{sheet-in}
-use Rattle.room.proofs.CodeOpening.{Fits, fits-more, sheet-step}
+use Rattle.room.proofs.CodeSheets.{Fits, fits-more, sheet-step}
 use Rattle.room.proofs.opening.fill_sheet.Needs as need
 
 pub loop-i-holds : need.loop-i-holds

@@ -4,7 +4,7 @@ use lib.ListN.{length, take}
 use Rattle.std.specs.shelf.Lists.{All}
 use Rattle.room.specs.Opening.{written-over}
 use Rattle.room.specs.Slots.{sheet-in}
-use Rattle.room.proofs.CodeOpening.{Fits}
+use Rattle.room.proofs.CodeSheets.{Fits}
 use Rattle.room.proofs.opening.fill_sheet.Given as given
 
 abbrev pub Inv-loop-i : given.InvT-loop-i

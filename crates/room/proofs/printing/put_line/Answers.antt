@@ -7,7 +7,7 @@ use Rattle.std.specs.Written.{decimal}
 use Rattle.std.proofs.shelf.Lists.{length-append}
 use Rattle.room.specs.Page.{line}
 use Rattle.room.specs.Places.{written-at}
-use Rattle.room.proofs.CodePages.{wrote-then, length-line, line-parts}
+use Rattle.room.proofs.CodePages.{written-then, length-line, line-parts}
 use Rattle.room.proofs.printing.put_line.Needs as need
 
 pub put-number-a-requires : need.put-number-a-requires
@@ -42,9 +42,9 @@ returns c =
     let l3 : length s3 ≡ length s2 + length (decimal (c .args .offer .bidder)) = length-append s2 (decimal (c .args .offer .bidder)) in
     let l4 : length s4 ≡ length s3 + 1 = length-append s3 (44 ∷ []) in
     let l5 : length s5 ≡ length s4 + length (decimal (c .args .offer .amount)) = length-append s4 (decimal (c .args .offer .amount)) in
-    let p2 = wrote-then d0 _ _ (c .args .at) (c .put-number-a .result) s1 (44 ∷ []) h (c .put-number-a .ensures .page) (c .put-number-a .ensures .end) (c .put-byte-b .ensures .page) in
-    let p3 = wrote-then d0 _ _ (c .args .at) (c .put-byte-b .result) s2 (decimal (c .args .offer .bidder)) h p2 (omega arith) (c .put-number-c .ensures .page) in
-    let p4 = wrote-then d0 _ _ (c .args .at) (c .put-number-c .result) s3 (44 ∷ []) h p3 (omega arith) (c .put-byte-d .ensures .page) in
-    let p5 = wrote-then d0 _ _ (c .args .at) (c .put-byte-d .result) s4 (decimal (c .args .offer .amount)) h p4 (omega arith) (c .put-number-e .ensures .page) in
-    let p6 = wrote-then d0 _ _ (c .args .at) (c .put-number-e .result) s5 (10 ∷ []) h p5 (omega arith) (c .put-byte .ensures .page) in
+    let p2 = written-then d0 _ _ (c .args .at) (c .put-number-a .result) s1 (44 ∷ []) h (c .put-number-a .ensures .page) (c .put-number-a .ensures .end) (c .put-byte-b .ensures .page) in
+    let p3 = written-then d0 _ _ (c .args .at) (c .put-byte-b .result) s2 (decimal (c .args .offer .bidder)) h p2 (omega arith) (c .put-number-c .ensures .page) in
+    let p4 = written-then d0 _ _ (c .args .at) (c .put-number-c .result) s3 (44 ∷ []) h p3 (omega arith) (c .put-byte-d .ensures .page) in
+    let p5 = written-then d0 _ _ (c .args .at) (c .put-byte-d .result) s4 (decimal (c .args .offer .amount)) h p4 (omega arith) (c .put-number-e .ensures .page) in
+    let p6 = written-then d0 _ _ (c .args .at) (c .put-number-e .result) s5 (10 ∷ []) h p5 (omega arith) (c .put-byte .ensures .page) in
     record { end = omega arith; page = p6 ∙ ap (written-at d0 (c .args .at)) (line-parts (c .args .lot) (c .args .offer)) }

@@ -6,7 +6,7 @@ use Rattle.std.specs.Joined.{joined}
 use Rattle.std.proofs.shelf.Lists.{length-append, take-all}
 use Rattle.room.specs.Page.{line}
 use Rattle.room.specs.Places.{written-at}
-use Rattle.room.proofs.CodePages.{written-none, wrote-then, lines-more, line-fits, none-listed}
+use Rattle.room.proofs.CodePages.{written-none, written-then, lines-more, line-fits, none-listed}
 use Rattle.room.proofs.printing.put_lines.Needs as need
 
 pub put-line-at-requires : need.put-line-at-requires
@@ -22,7 +22,7 @@ loop-i-again c =
     let n = length-append ps x in
     let k = ap length m in (
       omega arith,
-      wrote-then (c .args .page .now) (c .loop-i .page) _ (c .args .start) (c .loop-i .at) ps x (omega arith) (c .loop-i .inv .1) (c .loop-i .inv .0) (c .put-line-at .ensures .page)
+      written-then (c .args .page .now) (c .loop-i .page) _ (c .args .start) (c .loop-i .at) ps x (omega arith) (c .loop-i .inv .1) (c .loop-i .inv .0) (c .put-line-at .ensures .page)
           ∙ ap (written-at (c .args .page .now) (c .args .start)) (sym m),
     )
 

@@ -7,7 +7,7 @@ use Rattle.std.proofs.shelf.Lists.{length-take}
 use Rattle.room.specs.Page.{page}
 use Rattle.room.specs.Opening.{written-over}
 use Rattle.room.specs.Slots.{sheet-in}
-use Rattle.room.proofs.CodeOpening.{sheet-le, sheet-is, over-taken, at-start, page-fits}
+use Rattle.room.proofs.CodeSheets.{sheet-le, sheet-is, over-taken, at-start, page-fits}
 use Rattle.room.proofs.state.RoomState.print.Needs as need
 
 pub part-put-page-end : need.part-put-page-end

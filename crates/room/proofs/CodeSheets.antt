@@ -1,142 +1,38 @@
--- Facts about opening: the amount that a slot's envelope offers, the sheet of slots, and how long its page can be.
+-- Facts about the sheet of slots: one slot more, how long its page can be, and how both are written.
 use mathlib.Core.Path.{_≡_, refl, sym, _∙_, ap, ap₂}
 use mathlib.Core.Bool.{Bool, true, false, cond}
 use mathlib.Core.List.{List, [], _∷_, _++_, map}
-use Prim.Native.Nat.{ℕ, zero, suc, _+_, _-_, _*_, _^_, _≤_, _<_}
+use Prim.Native.Nat.{ℕ, suc, _+_, _-_, _*_, _^_, _≤_, _<_}
 use native.Mathlib.Omega.{arith}
-use lib.Dec.{eqb, ltb}
+use lib.Dec.{ltb}
 use lib.ListN.{length, getD, take, drop, set}
 use Rattle.std.specs.Joined.{joined}
 use Rattle.std.specs.declared.option.Option.{Option}
 use Rattle.std.specs.declared.option.Option.the-variants.{Some, None}
-use Rattle.std.specs.declared.result.Result.{Result}
-use Rattle.std.specs.declared.result.Result.the-variants.{Ok, Err}
 use Rattle.std.specs.shelf.Lists.{All}
-use Rattle.std.specs.shelf.Digits.{number, Under}
 use Rattle.std.specs.shelf.Text.{sameBytes}
 use Rattle.std.proofs.shelf.Decimals.{length-decimal-le}
 use Rattle.std.proofs.shelf.Elements.{all-push}
-use Rattle.std.proofs.shelf.Tests.{ne-eqb, eq-eqb, lt-ltb, le-ltb, ltb-true, ltb-false}
-use Rattle.std.proofs.shelf.Lists.{take-at, take-rest, length-take-le, length-drop, drop-at, drop-drop, drop-more, set-at, append-assoc, append-nil, length-append, map-more, take-more}
-use Rattle.fault.specs.Checks.{decided}
+use Rattle.std.proofs.shelf.Tests.{lt-ltb, le-ltb, ltb-true, ltb-false}
+use Rattle.std.proofs.shelf.Lists.{take-at, drop-more, set-at, append-assoc, append-nil, length-append, map-more, take-more}
 use Rattle.engine.specs.declared.variants.Variant.{Variant}
-use Rattle.cipher.specs.Mode.{tag-bytes, tag, opened-text}
-use Rattle.cipher.specs.Calls.{CheckedText, check-answer, opened}
-use Rattle.cipher.specs.Theorems.{Lawful-sizes}
-use Rattle.cipher.specs.declared.faults.CipherFault.{CipherFault}
-use Rattle.cipher.specs.declared.faults.CipherFault.the-variants.{WrongTag}
-use Rattle.cipher.proofs.Laws.{sized-check, opens-as-checked}
-use Rattle.envelope.specs.Heads.{head}
+use Rattle.cipher.specs.Mode.{tag, opened-text}
 use Rattle.envelope.specs.Letters.{amount-in}
-use Rattle.envelope.specs.Envelopes.{envelope-bytes, head-part, sealed-part, tag-part, right-tag}
-use Rattle.envelope.proofs.HeadLaws.{head-length}
+use Rattle.envelope.specs.Envelopes.{head-part, sealed-part, tag-part}
 use Rattle.envelope.proofs.Laws.{amount-in-le}
 use Rattle.room.specs.Sales.{Bytes}
-use Rattle.room.specs.Page.{names, line, page}
+use Rattle.room.specs.Page.{line, page}
 use Rattle.room.specs.Places.{written-at}
 use Rattle.room.specs.Rooms.{Holding, Contents, envelope-in, holding-of, contents, no-slot}
-use Rattle.room.specs.Calls.{amount-held, amount-of, listed, sheet-of, page-of}
+use Rattle.room.specs.Calls.{amount-held, amount-of, listed, sheet-of}
 use Rattle.room.specs.Opening.{written-over}
 use Rattle.room.specs.Slots.{room-of, sheet-in}
-use Rattle.room.specs.declared.faults.RoomFault.{RoomFault}
-use Rattle.room.specs.declared.faults.RoomFault.the-variants.{WrongTag as Wrong-tag}
 use Rattle.room.specs.declared.sheet.SheetEntry.{SheetEntry}
 use Rattle.room.specs.declared.slots.Phase.{Phase}
 use Rattle.room.specs.declared.slots.Phase.the-variants.{Closed}
 use Rattle.room.specs.declared.slots.Slot.{Slot}
 use Rattle.room.specs.declared.state.RoomState.{RoomState}
-use Rattle.room.proofs.CodeChecks.{not-both, same-value, same-reason}
 use Rattle.room.proofs.CodePages.{length-line, page-length, names-length}
-
--- What a check of lawful sizes answers.
-module _ (v : Variant) (key nonce ad text tag-place : Bytes) (sizes : Lawful-sizes v key nonce ad text tag-place) where
-  abbrev checked : CheckedText
-  checked = record { variant = v; key = number 256 key; nonce = number 256 nonce; sealed = text }
-
-  sized : (b : Bool) (r : Result CheckedText CipherFault) → sameBytes tag-place (tag v key nonce ad text) ≡ b → r ≡ check-answer v key nonce ad text tag-place → r ≡ cond b (Ok checked) (Err WrongTag)
-  sized b r e h = h ∙ sized-check v key nonce ad text tag-place sizes ∙ ap (λ t. cond t (Ok checked) (Err WrongTag)) e
-
-  pub check-passed : (t : CheckedText) → _≡_ {A = Result CheckedText CipherFault} (Ok t) (check-answer v key nonce ad text tag-place) → (sameBytes tag-place (tag v key nonce ad text) ≡ true) × (t ≡ checked)
-  check-passed t h = go (sameBytes tag-place (tag v key nonce ad text)) refl
-    where
-      go : (b : Bool) → sameBytes tag-place (tag v key nonce ad text) ≡ b → (sameBytes tag-place (tag v key nonce ad text) ≡ true) × (t ≡ checked)
-      go true e = (e, same-value t checked (sized true (Ok t) e h))
-      go false e = absurd (not-both t WrongTag (sized false (Ok t) e h))
-
-  pub check-failed : (f : CipherFault) → _≡_ {A = Result CheckedText CipherFault} (Err f) (check-answer v key nonce ad text tag-place) → (sameBytes tag-place (tag v key nonce ad text) ≡ false) × (f ≡ WrongTag)
-  check-failed f h = go (sameBytes tag-place (tag v key nonce ad text)) refl
-    where
-      go : (b : Bool) → sameBytes tag-place (tag v key nonce ad text) ≡ b → (sameBytes tag-place (tag v key nonce ad text) ≡ false) × (f ≡ WrongTag)
-      go true e = absurd (not-both checked f (sym (sized true (Err f) e h)))
-      go false e = (e, same-reason f WrongTag (sized false (Err f) e h))
-
-  pub opened-amount : (t : CheckedText) → _≡_ {A = Result CheckedText CipherFault} (Ok t) (check-answer v key nonce ad text tag-place) → Under 256 key → Under 256 nonce
-      → (n : ℕ) (w : Bytes) → w ≡ opened t → n ≡ amount-in w → n ≡ cond (sameBytes tag-place (tag v key nonce ad text)) (amount-in (opened-text v key nonce text)) 0
-  opened-amount t h uk un n w ew en =
-      let p = check-passed t h in
-      let q = p .0 in
-      rw q (en ∙ ap amount-in (ew ∙ ap opened (p .1) ∙ opens-as-checked v key nonce text (sizes .key-length) (sizes .nonce-length) uk un))
-
--- The check of an envelope of its variant's length.
-module _ (v : Variant) (key terms e : Bytes) (lk : length key ≡ 16) (lt : length terms ≤ 64) (le : length e ≡ envelope-bytes v) (b s : ℕ) where
-  envelope-sizes : Lawful-sizes v key (head-part e) terms (sealed-part e) (tag-part e)
-  envelope-sizes = record {
-    key-length = lk;
-    nonce-length = length-take-le 12 e (omega arith);
-    associated-length = omega arith;
-    text-length = let a = length-take-le 64 (drop 12 e) (omega (arith, length-drop 12 e)) in omega arith;
-    tag-length = length-drop 76 e ∙ omega arith;
-  }
-
-  pub tag-refused : (f : CipherFault) → _≡_ {A = Result CheckedText CipherFault} (Err f) (check-answer v key (take 12 e) terms (take 64 (drop 12 e)) (take (length e - 76) (drop 76 e)))
-      → _≡_ {A = Result (Unit {0}) RoomFault} (Err (Wrong-tag b s f)) (decided ((sameBytes (tag-part e) (right-tag v key terms e), Wrong-tag b s WrongTag) ∷ []) tt)
-  tag-refused f h =
-      let p = check-failed v key (head-part e) terms (sealed-part e) (tag-part e) envelope-sizes f (h ∙ ap (check-answer v key (take 12 e) terms (take 64 (drop 12 e))) (take-rest e 76)) in
-      let q = p .0 in
-      rw q (ap (λ g. Err (Wrong-tag b s g)) (p .1))
-
-  pub tag-accepted : (t : CheckedText) → _≡_ {A = Result CheckedText CipherFault} (Ok t) (check-answer v key (take 12 e) terms (take 64 (drop 12 e)) (take (length e - 76) (drop 76 e)))
-      → _≡_ {A = Result (Unit {0}) RoomFault} (Ok tt) (decided ((sameBytes (tag-part e) (right-tag v key terms e), Wrong-tag b s WrongTag) ∷ []) tt)
-  tag-accepted t h =
-      let p = check-passed v key (head-part e) terms (sealed-part e) (tag-part e) envelope-sizes t (h ∙ ap (check-answer v key (take 12 e) terms (take 64 (drop 12 e))) (take-rest e 76)) in
-      let q = p .0 in
-      rw q
-
--- The amount that the envelope of a slot offers, from its parts.
-module _ (v : Variant) (lot : ℕ) (terms : Bytes) (x : Slot) where
-  pub amount-none : x .sequence ≡ 0 → 0 ≡ amount-held v (x .key) terms (envelope-in v lot x)
-  amount-none h = rw (eq-eqb (x .sequence) 0 h)
-
-  abbrev top : Bytes
-  top = head lot (x .bidder) (x .sequence)
-
-  abbrev end : Bytes
-  end = take (tag-bytes v) (x .tag)
-
-  abbrev kept : Bytes
-  kept = top ++ (x .letter ++ end)
-
-  at-head : top ≡ head-part kept
-  at-head = sym (take-at top (x .letter ++ end) 12 (head-length lot (x .bidder) (x .sequence)))
-
-  at-rest : drop 12 kept ≡ x .letter ++ end
-  at-rest = drop-at top (x .letter ++ end) 12 (head-length lot (x .bidder) (x .sequence))
-
-  module _ (long : length (x .letter) ≡ 64) where
-    at-sealed : x .letter ≡ sealed-part kept
-    at-sealed = sym (ap (take 64) at-rest ∙ take-at (x .letter) end 64 long)
-
-    at-tag : end ≡ tag-part kept
-    at-tag = sym (sym (drop-drop 64 12 kept) ∙ ap (drop 64) at-rest ∙ drop-at (x .letter) end 64 long)
-
-    pub amount-kept : (n : ℕ) (nonce place : Bytes) → (x .sequence ≡ 0 → ⊥) → nonce ≡ top → place ≡ end
-        → n ≡ cond (sameBytes place (tag v (x .key) nonce terms (x .letter))) (amount-in (opened-text v (x .key) nonce (x .letter))) 0
-        → n ≡ amount-held v (x .key) terms (envelope-in v lot x)
-    amount-kept n nonce place some en ep h =
-        let pt : place ≡ tag-part kept = ep ∙ at-tag in
-        let ph : nonce ≡ head-part kept = en ∙ at-head in
-        rw (ne-eqb (x .sequence) 0 some)
-        (h ∙ (λ i. cond (sameBytes (pt i) (tag v (x .key) (ph i) terms (at-sealed i))) (amount-in (opened-text v (x .key) (ph i) (at-sealed i))) 0))
 
 -- A sheet, one slot more.
 listed-append : (r : Contents) (hs ks : List Holding) → listed r (hs ++ ks) ≡ listed r hs ++ listed r ks

@@ -1,8 +1,8 @@
 use native.Mathlib.Omega.{arith}
 use Prim.Native.Nat.{_<_}
 use Rattle.std.proofs.shelf.Elements.{all-from-getD}
-use Rattle.room.proofs.CodeOpening.{opened-amount}
-use Rattle.room.proofs.opening.open_amount.Needs as need
+use Rattle.room.proofs.CodeTags.{opened-amount}
+use Rattle.room.proofs.offers.open_amount.Needs as need
 
 pub returns-in-Ok-open : need.returns-in-Ok-open
 returns-in-Ok-open g c =

@@ -4,8 +4,8 @@ use native.Mathlib.Omega.{arith}
 use lib.ListN.{length, take}
 use borrow.Author.Needs.{needs}
 use Rattle.cipher.specs.Mode.{tag-bytes}
-use Rattle.room.proofs.CodeOpening.{amount-kept}
-use Rattle.room.proofs.opening.amount_of.Needs as need
+use Rattle.room.proofs.CodeOffers.{amount-kept}
+use Rattle.room.proofs.offers.amount_of.Needs as need
 
 pub returns : need.returns
 returns g c =
@@ -14,4 +14,4 @@ returns g c =
     let long : length (x .letter) ≡ 64 = search needs in
     let t : c .tag-bytes-t .result ≡ tag-bytes v = c .tag-bytes-t .ensures ∙ ap tag-bytes (c .variant .ensures .answer) in
     let n : c .tag-bytes-t .result - 0 ≡ tag-bytes v = omega arith in
-    amount-kept v (c .args .lot) (c .args .terms .now) x long _ _ _ (c .if-slot-eq0 .left) (c .put-head .ensures) (ap (λ k. take k (x .tag)) n) (c .open-amount .ensures)
+    amount-kept v (c .args .lot) (c .args .terms .now) x long _ _ _ (c .if-slot-eq0 .left) (c .head-of-nonce .ensures) (ap (λ k. take k (x .tag)) n) (c .open-amount .ensures)
