@@ -127,12 +127,12 @@ impl<'a> Checked<'a> {
         ensures { λ r. ⌜ now r ≡ now (self .entry .sealed) ⌝ }
     {
         let Checked {
-            sealed,
+            sealed: bytes,
             variant: _,
             key: _,
             nonce: _,
         } = self;
-        sealed
+        bytes
     }
 
     // Writes what the text opens to, by the engine lent if it is of the text's variant, and else by the plain one.
