@@ -1,0 +1,10 @@
+pub mod Cuts
+pub mod Lawful
+pub mod Pairs
+pub mod Places
+pub mod Registers
+pub mod Sound
+pub mod Takes
+pub mod Through
+pub mod Digits
+pub mod Enrolled

@@ -1,0 +1,14 @@
+pub mod Contents
+pub mod Enrolling
+pub mod Faults
+pub mod Fields
+pub mod Form
+pub mod Hexadecimal
+pub mod Lines
+pub mod Numbers
+pub mod Read
+pub mod Report
+pub mod Said
+pub mod Stepping
+pub mod Stepwise
+pub mod Theorems
