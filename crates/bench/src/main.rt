@@ -1,5 +1,7 @@
 // Runs the engines side by side. Without an argument each fast engine is compared with the plain one on blocks that look random,
 // and the output is always the same. With the argument `measure` the time of blocks and of sealed texts is measured.
+#![tactic(auto)]
+
 mod agreement;
 mod measures;
 mod source;

@@ -1,4 +1,6 @@
 // Bids of one pen: their envelopes have one length, pass the check of their tags, and open to their amounts; and what is refused.
+#![tactic(auto)]
+
 use cipher::check;
 use engine::{Plain, Variant};
 use envelope::{EnvelopeFault, Pen, amount_in, parts_of, seal_bid};

@@ -7,8 +7,8 @@ use Rattle.std.proofs.lemmas.Slice.Eq.{bytes_eq-Decides}
 use Rattle.std.proofs.lemmas.Bool.{le-leb}
 use Rattle.std.proofs.lemmas.List.{length-take-le, length-append}
 use Rattle.fault.specs.Checks.{granted, decided, Check}
-use Rattle.bytes.specs.Numbers.{bytes_of}
-use Rattle.bytes.proofs.Laws.{bytes_back}
+use Rattle.big_endian.specs.Numbers.{bytes_of}
+use Rattle.big_endian.proofs.Laws.{bytes_back}
 use Rattle.engine.specs.Permutation.{permutation, block_size}
 use Rattle.engine.proofs.Laws.{permutation_length}
 use Rattle.engine.specs.declared.variants.Variant.{Variant}

@@ -2,7 +2,7 @@
 ghost use Rattle.std.specs.Prelude.{◌≡◌, ℕ, ◌+◌, ◌*◌, ◌<◌, ◌≤◌, length, Ok};
 ghost use Rattle.std.specs.Str.{bytes_eq};
 ghost use Rattle.fault.specs.Checks.{left};
-ghost use Rattle.bytes.specs.Numbers.{bytes_of};
+ghost use Rattle.big_endian.specs.Numbers.{bytes_of};
 ghost use Rattle.engine.specs.Permutation.{block_size};
 ghost use Rattle.cipher.specs.Mode.{tag_size, tag as tag_of, opened_text};
 ghost use Rattle.cipher.specs.Calls.{check_answer, open_answer, opened};
@@ -13,7 +13,7 @@ use crate::sealing::stream_from;
 use crate::sizes::{KEY_BYTES, MOST_BLOCK_BYTES, MOST_TAG_BYTES, NONCE_BYTES, check_sizes};
 use crate::tagging::{first_mask_into, tag_into};
 use crate::xor::equal;
-use bytes::{number_of, put_number};
+use big_endian::{number_of, put_number};
 use engine::{Engine, Plain, Variant};
 
 // A received text whose tag was found right, with the variant, key and nonce of its check. Only `check` makes one. It

@@ -4,7 +4,7 @@ use borrow.Rule.Slice.PartMut.{put_mid, post_of}
 use Rattle.std.proofs.lemmas.Bool.{le-leb}
 use Rattle.std.proofs.lemmas.List.{length-append, length-take-le, append_assoc}
 use Rattle.fault.specs.Checks.{left}
-use Rattle.bytes.proofs.Laws.{take_cut}
+use Rattle.big_endian.proofs.Laws.{take_cut}
 use Rattle.engine.specs.declared.variants.Variant.{Variant}
 use Rattle.engine.specs.declared.variants.Variant.TheVariants.{Dumbo, Jumbo, Delirium}
 use Rattle.cipher.specs.Mode.{tag_size, tag, sealed_text}

@@ -7,8 +7,8 @@ use Rattle.std.proofs.lemmas.Int.Digits.{number_push}
 use Rattle.std.proofs.ByRecursion.{All-append}
 use Rattle.std.proofs.lemmas.Bool.{le-leb, cond-true}
 use Rattle.std.proofs.lemmas.List.{drop_more, take_at, drop_at, take_rest, length-append, append_assoc}
-use Rattle.bytes.specs.Numbers.{bytes_of}
-use Rattle.bytes.proofs.Laws.{bytes_of_length}
+use Rattle.big_endian.specs.Numbers.{bytes_of}
+use Rattle.big_endian.proofs.Laws.{bytes_of_length}
 use Rattle.envelope.specs.Heads.{head, lot_of, bidder_of, sequence_of}
 use Rattle.envelope.specs.Parts.{EnvelopeParts, parts_answer}
 use Rattle.envelope.proofs.Writing.{write_more, write_all}

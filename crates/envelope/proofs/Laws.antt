@@ -5,8 +5,8 @@ use Rattle.std.proofs.ByRecursion.{All-take, All-drop}
 use Rattle.std.proofs.lemmas.Bool.{cases_Bool}
 use Rattle.std.proofs.lemmas.List.{take_at, take-take, drop_at, drop-drop, drop-take, take-append-drop, get_or_at, length-append, length-replicate, length-take-le, length-drop, append_assoc}
 use Rattle.fault.specs.Checks.{granted}
-use Rattle.bytes.specs.Numbers.{bytes_of}
-use Rattle.bytes.proofs.Laws.{bytes_back, bytes_of_length}
+use Rattle.big_endian.specs.Numbers.{bytes_of}
+use Rattle.big_endian.proofs.Laws.{bytes_back, bytes_of_length}
 use Rattle.engine.specs.declared.variants.Variant.{Variant}
 use Rattle.cipher.specs.Mode.{tag_size, tag, sealed_text, opened_text}
 use Rattle.cipher.specs.Calls.{check_answer}

@@ -4,8 +4,8 @@ use borrow.Rule.Slice.PartMut.{put_mid, post_of}
 use Rattle.std.specs.Int.Digits.{number_from_digits}
 use Rattle.std.proofs.lemmas.Bool.{eq-eqb, ne_eqb, le-leb, lt-leb, eqb-true, leb-true, and_parts, and_left, and_right, cond-true, cond-false}
 use Rattle.std.proofs.lemmas.List.{at_drop_more, at_drop_all, set_at, take_at, drop_at, append_assoc, length-append, drop-replicate, length-take-le, take_all}
-use Rattle.bytes.specs.Numbers.{bytes_of}
-use Rattle.bytes.proofs.Laws.{bytes_of_length}
+use Rattle.big_endian.specs.Numbers.{bytes_of}
+use Rattle.big_endian.proofs.Laws.{bytes_of_length}
 use Rattle.envelope.specs.Letters.{letter, most_cents, amount_field, note_length, after_note, only_zeros, lawful, amount_offered}
 
 -- Looking at bytes one after another: byte i is not zero, is zero, or is past the end.

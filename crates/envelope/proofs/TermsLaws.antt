@@ -4,8 +4,8 @@ use borrow.Rule.Slice.PartMut.{put_mid, post_of}
 use Rattle.std.specs.Int.Digits.{number_from_digits, AllBelowBase}
 use Rattle.std.proofs.ByRecursion.{All-take, All-drop}
 use Rattle.std.proofs.lemmas.List.{take_all, take-append-drop, drop-drop, length-take, length-take-le, length-drop, length-append, append_assoc}
-use Rattle.bytes.specs.Numbers.{bytes_of}
-use Rattle.bytes.proofs.Laws.{bytes_back, bytes_of_length}
+use Rattle.big_endian.specs.Numbers.{bytes_of}
+use Rattle.big_endian.proofs.Laws.{bytes_back, bytes_of_length}
 use Rattle.envelope.specs.Terms.{held_bytes, bytes_of_terms}
 use Rattle.envelope.specs.declared.terms.Terms.{Terms}
 use Rattle.envelope.proofs.Writing.{write_more, write_all}

@@ -1,7 +1,7 @@
 -- Heads: the twelve bytes that open an envelope. They name lot, bidder and sequence, four bytes each, and serve as the nonce.
 use Rattle.std.specs.Prelude.{ℕ, List, ◌++◌, take, drop}
 use Rattle.std.specs.Int.Digits.{number_from_digits}
-use Rattle.bytes.specs.Numbers.{bytes_of}
+use Rattle.big_endian.specs.Numbers.{bytes_of}
 
 abbrev pub head_bytes : ℕ
 head_bytes = 12

@@ -1,7 +1,7 @@
 -- Letters: what a bidder writes, in 64 bytes whatever it says.
 use Rattle.std.specs.Prelude.{ℕ, ◌+◌, ◌-◌, Bool, true, cond, ◌&&◌, List, [], ◌∷◌, ◌++◌, length, take, drop, replicate, ◌==◌, nat_le, slice_index}
 use Rattle.std.specs.Int.Digits.{number_from_digits}
-use Rattle.bytes.specs.Numbers.{bytes_of}
+use Rattle.big_endian.specs.Numbers.{bytes_of}
 
 -- The bytes of a letter, the most that an amount may be (in cents), and the most bytes of a note.
 abbrev pub letter_bytes : ℕ

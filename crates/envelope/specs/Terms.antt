@@ -1,6 +1,6 @@
 -- Terms: what a lot is sold under, up to 64 bytes, as pens and heads hold them.
 use Rattle.std.specs.Prelude.{ℕ, List, ◌++◌, take}
-use Rattle.bytes.specs.Numbers.{bytes_of}
+use Rattle.big_endian.specs.Numbers.{bytes_of}
 use Rattle.envelope.specs.declared.terms.Terms.{Terms}
 
 abbrev pub most_terms_bytes : ℕ

@@ -5,7 +5,7 @@ ghost use Rattle.envelope.specs.Heads.{head as head_of};
 ghost use Rattle.envelope.specs.Parts.{parts_answer, parts_seen};
 
 use crate::terms::Terms;
-use bytes::put_number;
+use big_endian::put_number;
 
 pub(crate) const HEAD_BYTES: usize = 12;
 

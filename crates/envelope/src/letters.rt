@@ -2,7 +2,7 @@
 ghost use Rattle.std.specs.Prelude.{◌≡◌, ◌≤◌, length};
 ghost use Rattle.envelope.specs.Letters.{letter as letter_for, lawful, amount_offered, only_zeros};
 
-use bytes::{number_of, put_number};
+use big_endian::{number_of, put_number};
 
 pub(crate) const LETTER_BYTES: usize = 64;
 

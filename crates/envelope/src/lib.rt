@@ -1,4 +1,6 @@
 // The envelope layer: letters, heads, pens, and the sealing of bids into envelopes.
+#![tactic(auto)]
+
 mod bids;
 mod faults;
 mod heads;

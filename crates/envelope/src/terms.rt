@@ -2,7 +2,7 @@
 ghost use Rattle.std.specs.Prelude.{◌≡◌, ◌≤◌, ◌++◌, length, take, drop};
 ghost use Rattle.envelope.specs.Terms.{bytes_of_terms, held_bytes};
 
-use bytes::{number_of, put_number};
+use big_endian::{number_of, put_number};
 
 pub(crate) const MOST_TERMS_BYTES: usize = 64;
 

@@ -1,4 +1,5 @@
 // What every fault tells besides its number: the layer that refuses, and a place.
+#![tactic(auto)]
 
 // The layers of the service, from the lowest up.
 #[derive(Clone, Copy, PartialEq, Eq, Debug)]

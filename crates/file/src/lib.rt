@@ -1,4 +1,5 @@
 // The sale file: its lines, and what they say of a sale.
+#![tactic(auto)]
 
 mod enrolling;
 mod faults;

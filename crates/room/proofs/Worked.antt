@@ -8,8 +8,8 @@ use Rattle.engine.specs.Spongent.{substitute, counter, next}
 use Rattle.cipher.specs.Blocks.{parts}
 use Rattle.cipher.specs.Masks.{phi1}
 use Rattle.cipher.specs.Mode.{closed}
-use Rattle.bytes.specs.Numbers.{bytes_of}
-use Rattle.bytes.proofs.Laws.{bytes_of_length}
+use Rattle.big_endian.specs.Numbers.{bytes_of}
+use Rattle.big_endian.proofs.Laws.{bytes_of_length}
 use Rattle.envelope.specs.Letters.{letter, amount_field, most_cents}
 use Rattle.envelope.proofs.LetterLaws.{unlawful_amount}
 use Rattle.envelope.proofs.HeadLaws.{number_back}

@@ -1,4 +1,6 @@
 // The room layer: sale rooms, where envelopes are lodged until closing and opened afterwards.
+#![tactic(auto)]
+
 mod admission;
 mod faults;
 mod guard;

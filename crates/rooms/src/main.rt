@@ -1,5 +1,7 @@
 // Sales from beginning to end, in each variant: a pen, sealed bids, a room that envelopes are lodged in, closing and opening; and a
 // room that is made again over an old one. It prints what each call answers, and the pages.
+#![tactic(auto)]
+
 mod bidding;
 mod holding;
 

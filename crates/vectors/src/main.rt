@@ -1,5 +1,7 @@
 // Runs the published values of the permutations and the known answers of data/ through every engine of their variant,
 // and prints how many agree. A first argument N has every N-th record of each file tried, and a second only one engine.
+#![tactic(auto)]
+
 ghost use Rattle.std.specs.Prelude.{◌≡◌, ℕ, ◌<◌, IfOk};
 
 mod hex;

@@ -1,6 +1,6 @@
 use Rattle.std.proofs.Common.{ℕ, ap, ◌∙◌, rules}
 use Rattle.std.proofs.lemmas.List.{places}
-use Rattle.bytes.specs.Numbers.{bytes_of}
+use Rattle.big_endian.specs.Numbers.{bytes_of}
 use Rattle.envelope.proofs.HeadLaws.{head_written}
 use Rattle.envelope.proofs.heads.put_head.Goals as goal
 

@@ -1,6 +1,6 @@
 use Rattle.std.proofs.Common.{◌≡◌, ℕ, length, take, replicate, ap, ◌∙◌, arith}
 use Rattle.std.proofs.lemmas.List.{length-take-le}
-use Rattle.bytes.specs.Numbers.{bytes_of}
+use Rattle.big_endian.specs.Numbers.{bytes_of}
 use Rattle.envelope.proofs.LetterLaws.{written}
 use Rattle.envelope.proofs.letters.write_letter.Goals as goal
 

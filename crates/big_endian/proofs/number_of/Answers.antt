@@ -2,8 +2,8 @@ use Rattle.std.proofs.Common.{◌≡◌, ◌+◌, ◌*◌, ◌^◌, ◌<◌, len
 use Rattle.std.specs.Int.Digits.{number_from_digits}
 use Rattle.std.proofs.lemmas.Int.Digits.{number_more}
 use Rattle.std.proofs.lemmas.List.{take_all}
-use Rattle.bytes.proofs.Laws.{grow, bounded, take_cut}
-use Rattle.bytes.proofs.number_of.Goals as goal
+use Rattle.big_endian.proofs.Laws.{grow, bounded, take_cut}
+use Rattle.big_endian.proofs.number_of.Goals as goal
 
 pub overflow-mul-n : goal.overflow-mul-n
 overflow-mul-n c = let h = bounded c.loop-i.n c.loop-i.i c.loop-i.invariant.1 (omega arith) in search rules

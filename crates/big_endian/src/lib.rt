@@ -1,7 +1,9 @@
 // Numbers as bytes, the highest byte first.
+#![tactic(auto)]
+
 ghost use Rattle.std.specs.Prelude.{◌≡◌, length, take};
 ghost use Rattle.std.specs.Int.Digits.{number_from_digits};
-ghost use Rattle.bytes.specs.Numbers.{bytes_of};
+ghost use Rattle.big_endian.specs.Numbers.{bytes_of};
 
 // The bytes that a number of 128 bits has.
 const NUMBER_BYTES: usize = 16;

@@ -1,6 +1,6 @@
 use Rattle.std.proofs.Common.{arith}
-use Rattle.bytes.proofs.Laws.{put_none, put_more, put_all}
-use Rattle.bytes.proofs.put_number.Goals as goal
+use Rattle.big_endian.proofs.Laws.{put_none, put_more, put_all}
+use Rattle.big_endian.proofs.put_number.Goals as goal
 
 pub loop-i-init : goal.loop-i-init
 loop-i-init c = put_none c.args.n c.args.out.now

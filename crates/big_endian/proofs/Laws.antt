@@ -7,7 +7,7 @@ use Rattle.std.proofs.lemmas.Int.Digits.{number_more, number_lt}
 use Rattle.std.proofs.ByRecursion.{All-get_or, All-take, All-from_get_or}
 use Rattle.std.proofs.lemmas.List.{take_all, take_more, nil_from_length, length-take-le, drop-set, drop_more, take-set, drop_all, append-nil, append_assoc, length-append}
 use Rattle.std.proofs.lemmas.Bool.{cases_lt}
-use Rattle.bytes.specs.Numbers.{bytes_of}
+use Rattle.big_endian.specs.Numbers.{bytes_of}
 
 -- The bytes of the number that bytes write are those bytes.
 pub bytes_back : (k : ℕ) (bs : List ℕ) → length bs ≡ k → AllBelowBase 256 bs → bytes_of k (number_from_digits 256 bs) ≡ bs
