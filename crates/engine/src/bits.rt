@@ -56,9 +56,9 @@ pub(crate) trait Layer {
 
 // Writes what the layer makes of the old bits.
 pub(crate) fn apply<L: Layer>(layer: &L, old: &[bool], new: &mut [bool])
-    requires suits { suits (length old.now) }
+    requires suits { L.suits (length old.now) }
     requires long { length new.old ≡ length old.now }
-    ensures { new.new ≡ made (length old.now) (rule layer.now old.now) }
+    ensures { new.new ≡ made (length old.now) (L.rule layer.now old.now) }
 {
     for j in 0..new.len() {
         new[j] = layer.bit(old, j);

@@ -5,8 +5,8 @@ use Rattle.list.specs.Order.{Rising, by_key}
 use Rattle.list.proofs.Laws.{key_below}
 use Rattle.room.specs.Making.{rises_from, lawful_register}
 use Rattle.room.specs.declared.register.RegisterEntry.{RegisterEntry}
+use Rattle.file.specs.Contents.{Sale}
 use Rattle.file.specs.Theorems.{KeepsLimits}
-use Rattle.room.specs.Sales.{Sale}
 
 abbrev nobody : RegisterEntry
 nobody = record { bidder = 0; key = [] }

@@ -3,8 +3,8 @@ use Rattle.std.proofs.Common.{◌≡◌, ℕ, ◌+◌, ◌-◌, ◌≤◌, List,
 use Rattle.std.proofs.lemmas.List.{drop-drop, length-take-le, take-append-drop}
 use Rattle.engine.specs.declared.variants.Variant.{Variant}
 use Rattle.list.specs.declared.faults.ListFault.{ListFault}
-use Rattle.file.specs.Contents.{with_register, and_then, or_stop, enrolled, gathered, enrolled_in}
-use Rattle.file.specs.Enrolling.{enrolling_answer, register_after, sale_of}
+use Rattle.file.specs.Contents.{Sale, with_register, and_then, or_stop, enrolled, gathered, enrolled_in}
+use Rattle.file.specs.Enrolling.{enrolling_answer, register_after, sale_of, written_over}
 use Rattle.file.specs.Form.{Item, Items, end, broken, item}
 use Rattle.file.specs.Hexadecimal.{written_bytes}
 use Rattle.file.specs.Read.{first_of, rest_of}
@@ -15,8 +15,6 @@ use Rattle.file.specs.declared.line.Line.{Line}
 use Rattle.file.specs.declared.line.Line.TheVariants.{Lot, Bidder, Envelope}
 use Rattle.room.specs.declared.register.RegisterEntry.{RegisterEntry}
 use Rattle.file.proofs.Sound.{first_then, first_broken, first_ended}
-use Rattle.room.specs.Sales.{Sale}
-use Rattle.room.specs.Opening.{written_over}
 
 abbrev pub bidder_of : ℕ → List ℕ → RegisterEntry
 bidder_of b key = record { bidder = b; key = written_bytes key }

@@ -8,29 +8,29 @@ use Rattle.std.proofs.lemmas.List.{append_assoc}
 use Rattle.engine.specs.declared.variants.Variant.{Variant}
 use Rattle.room.specs.Rooms.{Contents as Room, contents}
 use Rattle.room.specs.Calls.{Lodging, answer_to, room_after}
+use Rattle.file.specs.Lines.{Bytes}
 use Rattle.file.specs.Contents.{Sent, envelopes_in}
 use Rattle.file.specs.Form.{Item, Items, end, broken, item, lot_item, bidder_item, envelope_item}
 use Rattle.file.specs.Hexadecimal.{written_bytes}
-use Rattle.file.specs.Report.{two_values, answer_number, answer_lines, lodged-all}
+use Rattle.file.specs.Report.{two_values, answer_number, answer_lines, lodged_all}
 use Rattle.file.specs.Said.{item_of}
 use Rattle.file.specs.Stepwise.{GoesThrough}
 use Rattle.file.specs.declared.line.Line.{Line}
 use Rattle.file.specs.declared.line.Line.TheVariants.{Lot, Bidder, Envelope}
-use Rattle.room.specs.Sales.{Bytes}
 
 pub through_lot : (out : Bytes) (r : Room) (l : Line) (lot : ℕ) (v : Variant) (t : Bor (List ℕ)) → l ≡ Lot lot v t → (is : Items)
     → GoesThrough out r (envelopes_in (item (item_of l) is)) out r (envelopes_in is)
 unfolding envelopes_in
 through_lot out r l lot v t e is =
     let q : envelopes_in (item (item_of l) is) ≡ envelopes_in is = ap (λ z. envelopes_in (item (item_of z) is)) e in
-    record { prints = ap (λ es. out ++ answer_lines r es) (sym q); leaves = ap (lodged-all r) (sym q) }
+    record { prints = ap (λ es. out ++ answer_lines r es) (sym q); leaves = ap (lodged_all r) (sym q) }
 
 pub through_bidder : (out : Bytes) (r : Room) (l : Line) (n b : ℕ) (t : Bor (List ℕ)) → l ≡ Bidder n b t → (is : Items)
     → GoesThrough out r (envelopes_in (item (item_of l) is)) out r (envelopes_in is)
 unfolding envelopes_in
 through_bidder out r l n b t e is =
     let q : envelopes_in (item (item_of l) is) ≡ envelopes_in is = ap (λ z. envelopes_in (item (item_of z) is)) e in
-    record { prints = ap (λ es. out ++ answer_lines r es) (sym q); leaves = ap (lodged-all r) (sym q) }
+    record { prints = ap (λ es. out ++ answer_lines r es) (sym q); leaves = ap (lodged_all r) (sym q) }
 
 abbrev pub sent : ℕ → List ℕ → Sent
 sent n digits = record { at = n; envelope = written_bytes digits }
@@ -38,7 +38,7 @@ sent n digits = record { at = n; envelope = written_bytes digits }
 pub through_envelope : (out out' : Bytes) (r r' : Room) (l : Line) (n : ℕ) (d : Bor (List ℕ)) → l ≡ Envelope n d
     → out' ≡ out ++ two_values n (answer_number (answer_to r (Lodging (written_bytes d.now)))) → r' ≡ room_after r (Lodging (written_bytes d.now)) → (is : Items)
     → GoesThrough out r (envelopes_in (item (item_of l) is)) out' r' (envelopes_in is)
-unfolding envelopes_in answer_lines lodged-all
+unfolding envelopes_in answer_lines lodged_all
 through_envelope out out' r r' l n d e o c is =
     let q : envelopes_in (item (item_of l) is) ≡ sent n d.now ∷ envelopes_in is = ap (λ z. envelopes_in (item (item_of z) is)) e in
     record {
@@ -46,14 +46,14 @@ through_envelope out out' r r' l n d e o c is =
           ∙ ap (λ z. (out ++ two_values n (answer_number (answer_to r (Lodging (written_bytes d.now))))) ++ answer_lines z (envelopes_in is)) c
           ∙ append_assoc out (two_values n (answer_number (answer_to r (Lodging (written_bytes d.now))))) (answer_lines (room_after r (Lodging (written_bytes d.now))) (envelopes_in is))
           ∙ ap (λ es. out ++ answer_lines r es) (sym q);
-      leaves = ap (λ z. lodged-all z (envelopes_in is)) c ∙ ap (lodged-all r) (sym q);
+      leaves = ap (λ z. lodged_all z (envelopes_in is)) c ∙ ap (lodged_all r) (sym q);
     }
 
 pub through_more : (out out' out'' : Bytes) (r r' r'' : Room) (es es' es'' : List Sent) → GoesThrough out r es out' r' es' → GoesThrough out' r' es' out'' r'' es'' → GoesThrough out r es out'' r'' es''
 through_more out out' out'' r r' r'' es es' es'' a b = record { prints = b.prints ∙ a.prints; leaves = b.leaves ∙ a.leaves }
 
 pub through_start : (out : Bytes) (r : Room) (L L' : Items) → L ≡ L' → GoesThrough out r (envelopes_in L') out r (envelopes_in L)
-through_start out r L L' e = record { prints = ap (λ z. out ++ answer_lines r (envelopes_in z)) e; leaves = ap (λ z. lodged-all r (envelopes_in z)) e }
+through_start out r L L' e = record { prints = ap (λ z. out ++ answer_lines r (envelopes_in z)) e; leaves = ap (λ z. lodged_all r (envelopes_in z)) e }
 
 -- one more line, above an engine of the same variant
 pub through_item : (out out' out'' : Bytes) (v w : Variant) (s s' s'' : RoomState) (es : List Sent) (L rest : Items) (i : Item) → w ≡ v

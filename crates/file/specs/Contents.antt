@@ -6,14 +6,20 @@ use Rattle.list.specs.Insertion.{has_equal, inserted}
 use Rattle.list.specs.Order.{by_key}
 use Rattle.list.specs.declared.faults.ListFault.{ListFault}
 use Rattle.list.specs.declared.faults.ListFault.TheVariants.{EqualEntry, Full}
-use Rattle.file.specs.Lines.{lines}
+use Rattle.file.specs.Lines.{Bytes, lines}
 use Rattle.file.specs.Hexadecimal.{written_bytes}
 use Rattle.file.specs.Form.{Items, end, broken, item, lot_item, bidder_item, envelope_item, items}
 use Rattle.file.specs.declared.faults.FileFault.{FileFault}
 use Rattle.file.specs.declared.faults.FileFault.TheVariants.{TooLong, List as ByList}
 use Rattle.file.specs.declared.line.Section.TheVariants.{LotNames}
 use Rattle.room.specs.declared.register.RegisterEntry.{RegisterEntry}
-use Rattle.room.specs.Sales.{Bytes, Sale}
+
+-- What a room is made of.
+pub record Sale : Type 0 where
+  pub lot : ℕ
+  pub variant : Variant
+  pub terms : Bytes
+  pub register : List RegisterEntry
 
 -- An envelope, and the line that it stands in.
 pub record Sent : Type 0 where

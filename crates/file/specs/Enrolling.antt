@@ -1,13 +1,12 @@
 -- What enrolling a bidder leaves in the list of bidders, and what gathering a file leaves in the places lent for it.
 use Rattle.std.specs.Prelude.{◌≡◌, ℕ, ◌≤◌, List, ◌++◌, length, take, drop, Ok, Err, Result}
 use Rattle.list.specs.declared.faults.ListFault.{ListFault}
-use Rattle.file.specs.Contents.{gathered, enrolled_in}
+use Rattle.file.specs.Contents.{Sale, gathered, enrolled_in}
 use Rattle.file.specs.Form.{Items}
 use Rattle.file.specs.declared.faults.FileFault.{FileFault}
 use Rattle.file.specs.declared.faults.FileFault.TheVariants.{List as ByList}
 use Rattle.file.specs.declared.gathering.Gathered.{Gathered}
 use Rattle.room.specs.declared.register.RegisterEntry.{RegisterEntry}
-use Rattle.room.specs.Sales.{Sale}
 
 -- What enrolling a bidder in line n answers.
 abbrev pub enrolling_answer : ℕ → Result (List RegisterEntry) ListFault → Result (Unit {0}) FileFault
@@ -18,6 +17,10 @@ enrolling_answer n (Err f) = Err (ByList n f)
 abbrev pub register_after : Result (List RegisterEntry) ListFault → List RegisterEntry → List RegisterEntry
 register_after (Ok register) before = register
 register_after (Err f) before = before
+
+-- Places after others were written over the first of them.
+abbrev pub written_over : List RegisterEntry → List RegisterEntry → List RegisterEntry
+written_over new old = new ++ drop (length new) old
 
 -- The sale that was gathered, with its register.
 abbrev pub sale_of : Gathered → List RegisterEntry → Sale

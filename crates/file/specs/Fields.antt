@@ -1,7 +1,7 @@
 -- The fields of a line, with commas between them.
 use Rattle.std.specs.Prelude.{ℕ, ◌+◌, Bool, not, length, take, drop, ◌==◌, nat_lt}
 use Rattle.std.specs.List.{prefix_len}
-use Rattle.room.specs.Sales.{Bytes}
+use Rattle.file.specs.Lines.{Bytes}
 
 -- How many bytes stand before the first b: all of them where there is none.
 unfoldable pub place_of : ℕ → Bytes → ℕ

@@ -3,7 +3,7 @@ use Rattle.std.specs.Prelude.{ℕ, ◌+◌, ◌%◌, Bool, true, false, cond, �
 use Rattle.std.specs.Str.{bytes_eq}
 use Rattle.engine.specs.declared.variants.Variant.{Variant}
 use Rattle.engine.specs.declared.variants.Variant.TheVariants.{Dumbo, Jumbo, Delirium}
-use Rattle.file.specs.Lines.{Lines, finished, torn, line}
+use Rattle.file.specs.Lines.{Bytes, Lines, finished, torn, line}
 use Rattle.file.specs.Fields.{holds_comma, field, behind}
 use Rattle.file.specs.Numbers.{number_of}
 use Rattle.file.specs.Hexadecimal.{all_hex_digits}
@@ -11,7 +11,6 @@ use Rattle.file.specs.declared.faults.FileFault.{FileFault}
 use Rattle.file.specs.declared.faults.FileFault.TheVariants.{Form, TermsLength}
 use Rattle.file.specs.declared.line.Section.{Section}
 use Rattle.file.specs.declared.line.Section.TheVariants.{LotNames, LotValues, LotEnd, BidderNames, FirstBidder, Bidders, EnvelopeNames, Envelopes}
-use Rattle.room.specs.Sales.{Bytes}
 
 -- What a line says: the lot with its variant and terms; or, at a line's number, a bidder and the digits of its key, or the digits of an envelope.
 pub data Item : Type 0 where

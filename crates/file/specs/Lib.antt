@@ -4,7 +4,6 @@ pub mod Faults
 pub mod Fields
 pub mod Form
 pub mod Hexadecimal
-pub mod Holding
 pub mod Lines
 pub mod Numbers
 pub mod Read

@@ -1,13 +1,12 @@
 -- What a reader of a sale file gives, and what is left for it to give.
 use Rattle.std.specs.Prelude.{ℕ, cond, ltb, length, drop, Some, None, Ok, Err, Option, Result}
-use Rattle.file.specs.Lines.{lines}
+use Rattle.file.specs.Lines.{Bytes, lines}
 use Rattle.file.specs.Form.{Item, lot_item, bidder_item, envelope_item, Items, end, broken, item, items}
 use Rattle.file.specs.Said.{item_of, said_by}
 use Rattle.file.specs.declared.faults.FileFault.{FileFault}
 use Rattle.file.specs.declared.faults.FileFault.TheVariants.{TooLong}
 use Rattle.file.specs.declared.line.Line.{Line}
 use Rattle.file.specs.declared.reader.Reader.{Reader}
-use Rattle.room.specs.Sales.{Bytes}
 
 -- What is left for a reader to give: what the lines say that it has not read yet.
 unfoldable pub left_of : Reader → Items

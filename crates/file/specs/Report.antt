@@ -1,11 +1,11 @@
 -- What is printed of a sale file: where it is refused the fault and its line, otherwise the answer to each envelope and the page.
-use Rattle.std.specs.Prelude.{ℕ, List, [], ◌∷◌, ◌++◌, map, Some, None, Ok, Err, codes, decimal, Option, Result}
-use Rattle.room.specs.Calls.{Answer, Call, Lodging, Closing, answer_to, room_after, page_of_room}
+use Rattle.std.specs.Prelude.{ℕ, List, [], ◌∷◌, ◌++◌, Ok, Err, codes, decimal, Result}
+use Rattle.room.specs.Calls.{Answer, Lodging, Closing, answer_to, room_after, page_of_room}
 use Rattle.room.specs.Faults.{fault_number as room_number}
 use Rattle.room.specs.Making.{new_room}
 use Rattle.room.specs.Rooms.{Contents as Room}
-use Rattle.room.specs.Sales.{Bytes, Sale}
-use Rattle.file.specs.Contents.{Sent, Contents, contents_in}
+use Rattle.file.specs.Lines.{Bytes}
+use Rattle.file.specs.Contents.{Sale, Sent, Contents, contents_in}
 use Rattle.file.specs.Faults.{fault_number, line_of}
 use Rattle.file.specs.declared.faults.FileFault.{FileFault}
 
@@ -26,27 +26,18 @@ abbrev pub answer_number : Answer → ℕ
 answer_number (Ok n) = 0
 answer_number (Err f) = room_number f
 
--- The envelopes are lodged in their order: the line of each, with its answer.
+-- The envelopes are lodged in their order: the line of each with its answer, and the room that they leave.
 unfoldable pub answer_lines : Room → List Sent → Bytes
 answer_lines r [] = []
 answer_lines r (e ∷ es) = two_values e.at (answer_number (answer_to r (Lodging e.envelope))) ++ answer_lines (room_after r (Lodging e.envelope)) es
 
--- The room that calls leave, one after the other.
-unfoldable pub after_all : Room → List Call → Room
-after_all r [] = r
-after_all r (c ∷ cs) = after_all (room_after r c) cs
+unfoldable pub lodged_all : Room → List Sent → Room
+lodged_all r [] = r
+lodged_all r (e ∷ es) = lodged_all (room_after r (Lodging e.envelope)) es
 
--- The calls of a sale: its envelopes are lodged in their order, and then the room is closed.
-unfoldable pub lodgings : List Sent → List Call
-lodgings [] = []
-lodgings (e ∷ es) = Lodging e.envelope ∷ lodgings es
-
-abbrev pub calls_in : Contents → List Call
-calls_in c = lodgings c.envelopes ++ (Closing ∷ [])
-
--- The page of a file: that of the room of its sale after these calls.
+-- The page of a file: the one that the room of its sale prints once all its envelopes were lodged in their order and it was closed.
 abbrev pub page_in : Contents → Bytes
-page_in c = page_of_room (after_all (room_of c.sale) (calls_in c))
+page_in c = page_of_room (room_after (lodged_all (room_of c.sale) c.envelopes) Closing)
 
 -- An accepted file prints its answers, an empty line, and the page.
 abbrev pub accepted_report : Contents → Bytes
@@ -59,11 +50,3 @@ report_by (Err f) = refused_report f
 -- The report of a file.
 abbrev pub report_of : Bytes → Bytes
 report_of file = report_by (contents_in file)
-
--- Why a file is refused, if it is.
-abbrev pub refusal_by : Result Contents FileFault → Option FileFault
-refusal_by (Ok c) = None
-refusal_by (Err f) = Some f
-
-abbrev pub refusal_in : Bytes → Option FileFault
-refusal_in file = refusal_by (contents_in file)

@@ -1,17 +1,11 @@
 -- Lodging the envelopes of a file one after the other.
 use Rattle.std.specs.Prelude.{◌≡◌, List, ◌++◌}
-use Rattle.engine.specs.declared.variants.Variant.{Variant}
-use Rattle.room.specs.Rooms.{contents}
-use Rattle.room.specs.Runs.{Meeting, Runs, calls_of}
-use Rattle.room.specs.Sales.{Bytes}
-use Rattle.room.specs.declared.state.RoomState.{RoomState}
+use Rattle.room.specs.Rooms.{Contents as Room}
+use Rattle.file.specs.Lines.{Bytes}
 use Rattle.file.specs.Contents.{Sent}
-use Rattle.file.specs.Report.{answer_lines, lodgings}
+use Rattle.file.specs.Report.{answer_lines, lodged_all}
 
--- From es to es' the envelopes between are lodged: what is printed, with the answers to those left, comes to the same as before, and the place has
--- met their lodgings in order, and no other calls.
-pub record GoesThrough (v : Variant) (out : Bytes) (r : RoomState) (es : List Sent) (out' : Bytes) (r' : RoomState) (es' : List Sent) : Type 0 where
-  pub prints : out' ++ answer_lines (contents v r') es' ≡ out ++ answer_lines (contents v r) es
-  pub meetings : List Meeting
-  pub runs : Runs v r meetings r'
-  pub calls : lodgings es ≡ calls_of meetings ++ lodgings es'
+-- What is printed, with the answers to the envelopes left, comes to the same as before, and so does the room that they leave.
+pub record GoesThrough (out : Bytes) (r : Room) (es : List Sent) (out' : Bytes) (r' : Room) (es' : List Sent) : Type 0 where
+  pub prints : out' ++ answer_lines r' es' ≡ out ++ answer_lines r es
+  pub leaves : lodged_all r' es' ≡ lodged_all r es

@@ -1,8 +1,8 @@
 -- What is true of every sale file that is accepted.
 use Rattle.std.specs.Prelude.{◌≡◌, ◌≤◌, length, Ok}
 use Rattle.list.specs.Order.{Rising, by_key}
-use Rattle.file.specs.Contents.{sale_in}
-use Rattle.room.specs.Sales.{Bytes, Sale}
+use Rattle.file.specs.Lines.{Bytes}
+use Rattle.file.specs.Contents.{Sale, sale_in}
 
 -- A sale within the limits of a room: at most 64 bytes of terms, and 1 to 64 bidders by strictly rising number.
 pub record KeepsLimits (s : Sale) : Type 0 where

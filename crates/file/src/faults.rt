@@ -1,14 +1,12 @@
 // Why a sale file is refused.
 ghost use Rattle.std.specs.Prelude.{◌≡◌};
 ghost use Rattle.file.specs.Faults.{fault_number, fault_layer, line_of, fault_place};
-ghost use Rattle.file.specs.declared.faults.FileFault.TheVariants.{Room as by_room};
 
 use fault::{Layer, Place};
 use list::ListFault;
-use room::RoomFault;
 
-// Lines are counted from 1.
-#[derive(Clone, Copy)]
+// Each fault but the first lies in a line, counted from 1.
+#[derive(Clone, Copy, PartialEq, Eq, Debug)]
 pub enum FileFault {
     // The file has more than 32,768 bytes.
     TooLong,
@@ -18,8 +16,6 @@ pub enum FileFault {
     TermsLength { line: u32 },
     // The list of bidders refuses the line's bidder.
     List { line: u32, cause: ListFault },
-    // The room refuses a call of the sale. No file gets so far: those that are read keep to the limits of a room.
-    Room(RoomFault),
 }
 
 impl FileFault {
@@ -31,7 +27,6 @@ impl FileFault {
             FileFault::Form { line: _ } => 22,
             FileFault::TermsLength { line: _ } => 15,
             FileFault::List { line: _, cause } => cause.number(),
-            FileFault::Room(cause) => cause.number(),
         }
     }
 
@@ -41,7 +36,7 @@ impl FileFault {
         Layer::File
     }
 
-    // The line that is refused, 0 where it is no line in particular.
+    // The line that is refused, 0 for a file that is too long.
     pub fn line(self) -> u32
         ensures { result ≡ line_of self }
     {
@@ -50,7 +45,6 @@ impl FileFault {
             FileFault::Form { line } => line,
             FileFault::TermsLength { line } => line,
             FileFault::List { line, cause: _ } => line,
-            FileFault::Room(_) => 0,
         }
     }
 
@@ -58,13 +52,5 @@ impl FileFault {
         ensures { result ≡ fault_place self }
     {
         Place::Line(self.line())
-    }
-}
-
-impl From<RoomFault> for FileFault {
-    ghost from_gives = { λ f r. r ≡ by_room f };
-
-    fn from(f: RoomFault) -> FileFault {
-        FileFault::Room(f)
     }
 }

@@ -7,7 +7,6 @@ mod fields;
 mod forms;
 mod gathering;
 mod hexadecimal;
-mod holding;
 mod judging;
 mod line;
 mod lodging;
@@ -15,9 +14,6 @@ mod numbers;
 mod printing;
 mod reader;
 mod reading;
-mod report_of_file;
-mod reporting;
-mod stopping;
 mod taking;
 mod theorems;
 

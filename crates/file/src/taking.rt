@@ -1,9 +1,8 @@
 // A sale file taken in: every line in its turn.
 ghost use Rattle.std.specs.Prelude.{◌≡◌, ◌≤◌, [], length, drop};
 ghost use Rattle.list.specs.Insertion.{entries_of};
-ghost use Rattle.room.specs.Opening.{written_over};
 ghost use Rattle.file.specs.Contents.{gathered, enrolled_in, said_in, sale_in};
-ghost use Rattle.file.specs.Enrolling.{sale_of, sale_by, goes_on, enrols_on};
+ghost use Rattle.file.specs.Enrolling.{sale_of, sale_by, goes_on, enrols_on, written_over};
 ghost use Rattle.file.specs.Form.{Items, item};
 ghost use Rattle.file.specs.Said.{item_of, WellFormed};
 

@@ -5,11 +5,11 @@ use Rattle.std.proofs.lemmas.List.{take_all}
 use Rattle.big_endian.proofs.Laws.{grow, bounded, take_cut}
 use Rattle.big_endian.proofs.number_of.Goals as goal
 
-pub overflow-mul-n : goal.overflow-mul-n
-overflow-mul-n c = let h = bounded c.loop-i.n c.loop-i.i c.loop-i.invariant.1 (omega arith) in search rules
+pub overflow_mul-n : goal.overflow_mul-n
+overflow_mul-n c = let h = bounded c.loop-i.n c.loop-i.i c.loop-i.invariant.1 (omega arith) in search rules
 
-pub overflow-add-n : goal.overflow-add-n
-overflow-add-n c = let h = bounded c.loop-i.n c.loop-i.i c.loop-i.invariant.1 (omega arith) in search rules
+pub overflow_add-n : goal.overflow_add-n
+overflow_add-n c = let h = bounded c.loop-i.n c.loop-i.i c.loop-i.invariant.1 (omega arith) in search rules
 
 pub loop-i-preserved : goal.loop-i-preserved
 loop-i-preserved c =

@@ -8,7 +8,7 @@ loop-k-init c = refl
 
 pub loop-k-preserved : goal.loop-k-preserved
 unfolding after
-loop-k-preserved c = rw add-one (c.one-round.ensures ∙ ap (round _) c.loop-k.invariant)
+loop-k-preserved c = rw add-one (c.one_round.ensures ∙ ap (round _) c.loop-k.invariant)
 
 pub returns : goal.returns
 returns c = let e : c.loop-k.k ≡ 18 = omega arith in c.loop-k.invariant ∙ ap (λ m. after m c.args.s.now) e

@@ -5,4 +5,4 @@ use Rattle.engine.proofs.keccak.permute.Goals as goal
 
 pub returns : goal.returns
 unfolding keccak
-returns c = c.pack.ensures ∙ ap (block _) (c.all-rounds.ensures ∙ ap (after 18) c.unpack.ensures)
+returns c = c.pack.ensures ∙ ap (block _) (c.all_rounds.ensures ∙ ap (after 18) c.unpack.ensures)

@@ -9,4 +9,4 @@ loop-i-init c = (refl, refl, omega arith)
 pub loop-i-preserved : goal.loop-i-preserved
 unfolding after counter
 loop-i-preserved c = rw add-one
-    (c.one-round.ensures ∙ ap₂ round c.loop-i.invariant.1 c.loop-i.invariant.0, c.step-c.ensures.0 ∙ ap next c.loop-i.invariant.1, c.step-c.ensures.1)
+    (c.one_round.ensures ∙ ap₂ round c.loop-i.invariant.1 c.loop-i.invariant.0, c.step-c.ensures.0 ∙ ap next c.loop-i.invariant.1, c.step-c.ensures.1)

@@ -4,4 +4,4 @@ use Rattle.engine.proofs.spongent.one_round.Goals as goal
 
 pub returns : goal.returns
 unfolding round count substitute move
-returns c = c.copy-from-slice.ensures.after ∙ c.apply-3.ensures ∙ ap move (c.apply-2.ensures ∙ ap substitute c.apply.ensures)
+returns c = c.copy_from_slice.ensures.after ∙ c.apply-3.ensures ∙ ap move (c.apply-2.ensures ∙ ap substitute c.apply.ensures)

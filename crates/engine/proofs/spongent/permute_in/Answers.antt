@@ -5,4 +5,4 @@ use Rattle.engine.proofs.spongent.permute_in.Goals as goal
 
 pub returns : goal.returns
 unfolding spongent
-returns c = c.pack.ensures ∙ ap (block _) (c.all-rounds.ensures ∙ ap (after _ _) c.unpack.ensures)
+returns c = c.pack.ensures ∙ ap (block _) (c.all_rounds.ensures ∙ ap (after _ _) c.unpack.ensures)

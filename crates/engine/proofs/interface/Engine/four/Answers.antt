@@ -6,15 +6,15 @@ use Rattle.engine.proofs.Granted.{answered_granted, replaced_granted}
 use Rattle.engine.proofs.interface.Engine.four.Goals as goal
 
 pub loop-i-init : goal.loop-i-init
-loop-i-init g c = done_none (permutation (g.Self.Engine.kind c.args.self.now)) c.block-bytes-n.result c.args.blocks.now
+loop-i-init g c = done_none (permutation (g.Self.Engine.kind c.args.self.now)) c.block_bytes-n.result c.args.blocks.now
 
 pub loop-i-preserved : goal.loop-i-preserved
 loop-i-preserved g c =
     let v = g.Self.Engine.kind c.args.self.now in
-    let n = c.block-bytes-n.result in
+    let n = c.block_bytes-n.result in
     let i = c.loop-i.i in
     let part = take (i * n + n - i * n) (drop (i * n) c.loop-i.blocks) in
-    let wide : n ≡ block_size v = c.block-bytes-n.ensures ∙ ap block_size c.variant.ensures.answer in
+    let wide : n ≡ block_size v = c.block_bytes-n.ensures ∙ ap block_size c.variant.ensures.answer in
     let within : i * n + n ≤ length c.args.blocks.now = search rules in
     let whole : length part ≡ block_size v = search rules in
     done_more (permutation v) n i c.args.blocks.now c.loop-i.blocks c.one.new.block
@@ -23,7 +23,7 @@ loop-i-preserved g c =
 pub returns : goal.returns
 returns g c =
     let v = g.Self.Engine.kind c.args.self.now in
-    let wide : c.block-bytes-n.result ≡ block_size v = c.block-bytes-n.ensures ∙ ap block_size c.variant.ensures.answer in
+    let wide : c.block_bytes-n.result ≡ block_size v = c.block_bytes-n.ensures ∙ ap block_size c.variant.ensures.answer in
     let four : c.loop-i.i ≡ 4 = omega arith in
     let all : length c.args.blocks.now ≡ 4 * block_size v = c.if-blocks-n.false ∙ ap (λ (m : ℕ). 4 * m) wide in
     record {
