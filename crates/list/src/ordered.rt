@@ -27,7 +27,7 @@ impl<'a, T: Entry> Ordered<'a, T> {
 
     // The checks of an insertion, in their order.
     fn admits(&self, e: &T) -> Result<(), ListFault>
-        ensures { result ≡ unless_refused (refusal compares e.now self.now.places.now self.now.count) (Ok tt) Err }
+        ensures { result ≡ unless_refused (refusal T.compares e.now self.now.places.now self.now.count) (Ok tt) Err }
     {
         if has_equal(self.entries(), e) {
             return Err(ListFault::EqualEntry);
@@ -40,10 +40,10 @@ impl<'a, T: Entry> Ordered<'a, T> {
 
     // Inserts an entry at its place in the order, and answers the new count.
     pub fn insert(&mut self, e: T) -> Result<usize, ListFault>
-        ensures answer { result ≡ answer_of compares e self.old.places.now self.old.count }
-        ensures count { self.new.count ≡ count_after compares e self.old.places.now self.old.count }
-        ensures places { self.new.places.now ≡ places_after compares e self.old.places.now self.old.count }
-        ensures rising_stays_rising { RisingStaysRising compares (entries_of self.old) (entries_of self.new) }
+        ensures answer { result ≡ answer_of T.compares e self.old.places.now self.old.count }
+        ensures count { self.new.count ≡ count_after T.compares e self.old.places.now self.old.count }
+        ensures places { self.new.places.now ≡ places_after T.compares e self.old.places.now self.old.count }
+        ensures rising_stays_rising { RisingStaysRising T.compares (entries_of self.old) (entries_of self.new) }
         ensures keeps_every_entry { KeepsEveryEntry e (entries_of self.old) (entries_of self.new) result }
         ensures same_places { self.new.places.ghost_name ≡ self.old.places.ghost_name }
     {
@@ -58,7 +58,7 @@ impl<'a, T: Entry> Ordered<'a, T> {
 
 // Whether one of the entries is equal in order to `e`.
 fn has_equal<T: Entry>(entries: &[T], e: &T) -> bool
-    ensures { result ≡ has_equal compares e.now entries.now }
+    ensures { result ≡ has_equal T.compares e.now entries.now }
 {
     for x in entries {
         match x.compare(e) {
@@ -71,7 +71,7 @@ fn has_equal<T: Entry>(entries: &[T], e: &T) -> bool
 
 // How many entries at the front come before `e`.
 fn count_ahead<T: Entry>(entries: &[T], e: &T) -> usize
-    ensures { result ≡ ahead compares e.now entries.now }
+    ensures { result ≡ ahead T.compares e.now entries.now }
 {
     let mut i = 0;
     while i < entries.len() {
