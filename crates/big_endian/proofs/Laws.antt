@@ -1,11 +1,11 @@
 -- Bytes and the numbers that they write, there and back.
-use Rattle.std.proofs.Common.{◌≡◌, ℕ, zero, suc, ◌+◌, ◌-◌, ◌*◌, ◌/◌, ◌%◌, ◌^◌, ◌<◌, ◌≤◌, min, List, [], ◌∷◌, ◌++◌, length, get_or, take, drop, set, sym, refl, ap, ◌∙◌, subst, ⊎_elim, add-one, arith}
+use Rattle.std.proofs.Common.{◌≡◌, ℕ, zero, suc, ◌+◌, ◌-◌, ◌*◌, ◌/◌, ◌%◌, ◌^◌, ◌<◌, ◌≤◌, min, List, [], ◌∷◌, ◌++◌, length, get_or, take, drop, set, sym, refl, ap, ◌∙◌, ⊎_elim, add-one, arith}
 use native.Mathlib.Numerals.{unary_clauses}
 use native.Mathlib.Nat.{pow-le-pow_right}
 use Rattle.std.specs.Int.Digits.{number_from_digits, AllBelowBase}
-use Rattle.std.proofs.lemmas.Int.Digits.{number_more, number_lt}
-use Rattle.std.proofs.ByRecursion.{All-get_or, All-take, All-from_get_or}
-use Rattle.std.proofs.lemmas.List.{take_all, take_more, nil_from_length, length-take-le, drop-set, drop_more, take-set, drop_all, append-nil, append_assoc, length-append}
+use Rattle.std.proofs.lemmas.Int.Digits.{number_more}
+use Rattle.std.proofs.ByRecursion.{All-get_or, All-take}
+use Rattle.std.proofs.lemmas.List.{take_all, take_more, nil_from_length, length-take-le, drop-set, drop_all, append-nil, append_assoc, length-append}
 use Rattle.std.proofs.lemmas.Bool.{cases_lt}
 use Rattle.big_endian.specs.Numbers.{bytes_of}
 

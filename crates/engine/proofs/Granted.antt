@@ -1,5 +1,5 @@
 -- What a granted call answers and leaves.
-use Rattle.std.proofs.Common.{◌≡◌, ℕ, cond, List, length, Ok, refl, eq-eqb}
+use Rattle.std.proofs.Common.{◌≡◌, ℕ, List, length, Ok, eq-eqb}
 use Rattle.engine.specs.Calls.{answered, replaced}
 
 pub answered_granted : (m : ℕ) (xs : List ℕ) → length xs ≡ m → answered m xs ≡ Ok tt

@@ -1,5 +1,5 @@
 -- A number from its bits, highest first.
-use Rattle.std.proofs.Common.{◌≡◌, ℕ, zero, suc, ◌+◌, ◌-◌, ◌*◌, ◌^◌, ◌<◌, ◌≤◌, Bool, true, false, List, [], ◌∷◌, length, get_or, sym, refl, ap, ◌∙◌, ap₂, suc-le-suc, add-zero, zero-lt-suc, pow-suc, add-one, arith, lit<}
+use Rattle.std.proofs.Common.{◌≡◌, ℕ, zero, suc, ◌+◌, ◌-◌, ◌*◌, ◌^◌, ◌<◌, Bool, true, false, List, get_or, refl, ap, ◌∙◌, ap₂, suc-le-suc, add-zero, zero-lt-suc, pow-suc, add-one, arith, lit<}
 use Rattle.engine.specs.Bits.{one, value, word}
 
 pub value_lt : (b : Bool) (i x : ℕ) → x < 2 ^ i → one b + 2 * x < 2 ^ (i + 1)

@@ -1,7 +1,7 @@
 -- Bits of a shifted, cut or turned word.
-use Rattle.std.proofs.Common.{◌≡◌, ℕ, zero, suc, ◌+◌, ◌-◌, ◌*◌, ◌/◌, ◌%◌, ◌^◌, ◌<◌, ◌≤◌, Bool, true, false, not, ◌&&◌, ◌||◌, eqb, sym, refl, ap, ◌∙◌, ap₂, ⊎_elim, lt_of_lt_of_le, le_of_suc-le-suc, not-suc-le-zero, mod-eq_of_lt, mul_comm, add_comm, pow-suc, zero-add, mul-one, add-one, one-add, arith, pow_pos, pow_mono}
+use Rattle.std.proofs.Common.{◌≡◌, ℕ, zero, suc, ◌+◌, ◌-◌, ◌*◌, ◌/◌, ◌%◌, ◌^◌, ◌<◌, ◌≤◌, Bool, true, false, ◌||◌, eqb, sym, refl, ap, ◌∙◌, ap₂, ⊎_elim, le_of_suc-le-suc, not-suc-le-zero, mod-eq_of_lt, add_comm, zero-add, mul-one, add-one, arith, pow_pos, pow_mono}
 use native.Mathlib.Nat.{mod_self, add-mod_right}
-use lib.Bits.{bit_or, or_lt, shifted_half, shifted_even, or_self}
+use lib.Bits.{bit_or, or_lt, shifted_half, shifted_even}
 use Rattle.std.proofs.lemmas.Nat.{shr-shr, shl-shr, shr_le, mod_below, field_of, mod-pow-add, div_below}
 use Rattle.std.proofs.lemmas.Bool.{cases_lt}
 use Rattle.engine.specs.Bits.{bit}

@@ -1,7 +1,7 @@
 -- A word's bits, gate by gate.
-use Rattle.std.proofs.Common.{◌≡◌, ℕ, ◌-◌, ◌^◌, ◌<◌, Bool, true, false, not, ◌&&◌, ◌||◌, sym, refl, ap, ◌∙◌, ap₂, arith, pow_pos}
+use Rattle.std.proofs.Common.{◌≡◌, ℕ, ◌-◌, ◌^◌, ◌<◌, Bool, not, ◌&&◌, ◌||◌, refl, ap, ◌∙◌, ap₂, arith, pow_pos}
 use lib.Bits.{bit_and, bit_or, bit_xor, or_lt, xor_lt, and_lt}
-use Rattle.engine.specs.Bits.{bit, one, differs}
+use Rattle.engine.specs.Bits.{bit, differs}
 use Rattle.engine.proofs.BitLaws.{bit_of_and, bit_of_or, bit_of_xor, bit_not}
 
 -- the word n of w bits has the bit x at place k

@@ -3,7 +3,7 @@ use Rattle.std.specs.Prelude.{◌≡◌, ℕ, zero, suc, ◌+◌, ◌*◌, ◌%�
 use Rattle.engine.specs.Bits.{made}
 use Rattle.engine.specs.Spongent.{place, move}
 use Rattle.engine.specs.Keccak.{constants}
-use Rattle.engine.specs.Permutation.{block_size, permutation}
+use Rattle.engine.specs.Permutation.{permutation}
 use Rattle.engine.specs.declared.variants.Variant.{Variant}
 
 -- At every width that is a multiple of four, the bit layer takes bit j to the place that the document's rule gives it.

@@ -1,4 +1,4 @@
-use Rattle.std.proofs.Common.{◌≡◌, false, sym, refl, ap, ◌∙◌, arith, rules}
+use Rattle.std.proofs.Common.{arith, rules}
 use Rattle.engine.proofs.Filling.{filled_more, filled_end}
 use Rattle.engine.specs.Bits.{byte_of, block}
 use Rattle.engine.proofs.bits.pack.Goals as goal

@@ -1,4 +1,4 @@
-use Rattle.std.proofs.Common.{◌≡◌, false, sym, refl, ap, ◌∙◌, arith, rules}
+use Rattle.std.proofs.Common.{false, arith, rules}
 use Rattle.engine.proofs.Filling.{filled_more, filled_end}
 use Rattle.engine.specs.Bits.{bit_of, bits}
 use Rattle.engine.proofs.bits.unpack.Goals as goal

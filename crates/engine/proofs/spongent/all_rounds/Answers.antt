@@ -1,4 +1,4 @@
-use Rattle.std.proofs.Common.{sym, refl, ap, ◌∙◌, ap₂, add-one, arith}
+use Rattle.std.proofs.Common.{refl, ap, ◌∙◌, ap₂, add-one, arith}
 use Rattle.engine.specs.Spongent.{round, after, counter, next}
 use Rattle.engine.proofs.spongent.all_rounds.Goals as goal
 

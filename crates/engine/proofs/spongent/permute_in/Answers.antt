@@ -1,4 +1,4 @@
-use Rattle.std.proofs.Common.{sym, refl, ap, ◌∙◌, ap₂}
+use Rattle.std.proofs.Common.{ap, ◌∙◌}
 use Rattle.engine.specs.Bits.{block}
 use Rattle.engine.specs.Spongent.{after, spongent}
 use Rattle.engine.proofs.spongent.permute_in.Goals as goal

@@ -1,4 +1,4 @@
-use Rattle.std.proofs.Common.{◌≡◌, ℕ, ◌+◌, ◌*◌, ◌%◌, ◌≤◌, Bool, true, false, sym, refl, ap, ◌∙◌, ap₂, arith, lit≤}
+use Rattle.std.proofs.Common.{◌+◌, ◌*◌, ◌%◌, ◌≤◌, Bool, true, false, ap₂, arith, lit≤}
 use Rattle.engine.specs.Bits.{one, differs}
 use Rattle.engine.specs.Spongent.{next}
 use Rattle.engine.proofs.spongent.step.Goals as goal

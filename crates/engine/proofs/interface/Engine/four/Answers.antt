@@ -1,5 +1,4 @@
 use Rattle.std.proofs.Common.{◌≡◌, ℕ, ◌+◌, ◌-◌, ◌*◌, ◌≤◌, length, take, drop, sym, refl, ap, ◌∙◌, arith, rules}
-use Rattle.std.proofs.lemmas.List.{length-take, length-drop}
 use Rattle.engine.specs.Permutation.{permutation, block_size, each}
 use Rattle.engine.proofs.Blocks.{done_none, done_more, done_all}
 use Rattle.engine.proofs.Granted.{answered_granted, replaced_granted}

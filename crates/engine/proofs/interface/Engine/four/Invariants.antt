@@ -1,4 +1,3 @@
-use Rattle.std.proofs.Common.{◌≡◌}
 use Rattle.engine.specs.Permutation.{permutation}
 use Rattle.engine.proofs.Blocks.{Done}
 use Rattle.engine.proofs.interface.Engine.four.Given as goal
