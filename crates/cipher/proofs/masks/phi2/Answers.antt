@@ -5,4 +5,4 @@ use Rattle.cipher.proofs.masks.phi2.Goals as goal
 
 pub returns : goal.returns
 unfolding phi2
-returns c = c.xor-into.ensures ∙ ap₂ xored c.phi1.ensures c.copy-from-slice.ensures.after
+returns c = c.xor_into.ensures ∙ ap₂ xored c.phi1.ensures c.copy_from_slice.ensures.after
