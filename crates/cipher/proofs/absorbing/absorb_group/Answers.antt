@@ -1,4 +1,4 @@
-use Rattle.std.proofs.Common.{◌≡◌, ℕ, ◌+◌, ◌-◌, ◌*◌, ◌<◌, ◌≤◌, List, [], ◌∷◌, ◌++◌, length, take, drop, sym, refl, ap, ◌∙◌, ap₂, arith}
+use Rattle.std.proofs.Common.{◌≡◌, ℕ, ◌+◌, ◌*◌, List, [], ◌∷◌, ◌++◌, take, drop, refl, ap, ◌∙◌, ap₂}
 use Rattle.engine.specs.Permutation.{permutation, block_size, each}
 use Rattle.cipher.specs.Blocks.{repeated, stream, xored, padded, summed}
 use Rattle.cipher.specs.Masks.{phi1, mask}

@@ -1,4 +1,4 @@
-use Rattle.std.proofs.Common.{◌≡◌, ◌+◌, ◌-◌, ◌*◌, ◌<◌, ◌≤◌, length, take, drop, sym, refl, ap, ◌∙◌, ap₂, add-zero, arith, rules}
+use Rattle.std.proofs.Common.{◌+◌, ◌*◌, ◌≤◌, length, take, drop, sym, refl, ap, ◌∙◌, ap₂, add-zero, arith, rules}
 use Rattle.cipher.specs.Blocks.{summed, xored}
 use Rattle.cipher.proofs.StreamLaws.{summed_more, rows}
 use Rattle.cipher.proofs.GroupLaws.{same_width}

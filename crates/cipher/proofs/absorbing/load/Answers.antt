@@ -1,4 +1,4 @@
-use Rattle.std.proofs.Common.{◌≡◌, ◌-◌, min, length, ap, ◌∙◌, zero-le, arith}
+use Rattle.std.proofs.Common.{◌-◌, length, zero-le, arith}
 use Rattle.cipher.proofs.PartLaws.{load_last, load_full}
 use Rattle.cipher.proofs.absorbing.load.Goals as goal
 

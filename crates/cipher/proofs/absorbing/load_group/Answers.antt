@@ -1,4 +1,4 @@
-use Rattle.std.proofs.Common.{◌≡◌, ℕ, ◌+◌, ◌-◌, ◌*◌, ◌<◌, ◌≤◌, List, [], ◌∷◌, ◌++◌, length, take, drop, sym, refl, ap, ◌∙◌, arith, length-drop, length-take, rules}
+use Rattle.std.proofs.Common.{◌≡◌, ◌+◌, ◌*◌, ◌≤◌, [], ◌∷◌, ◌++◌, length, drop, ap, ◌∙◌, arith, rules}
 use Rattle.cipher.specs.Blocks.{padded}
 use Rattle.cipher.proofs.StreamLaws.{laid_none, laid_more, laid_all, rows}
 use Rattle.cipher.proofs.PartLaws.{padded_length, part_size}

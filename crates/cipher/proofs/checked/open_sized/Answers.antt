@@ -1,4 +1,4 @@
-use Rattle.std.proofs.Common.{◌≡◌, ap, ◌∙◌}
+use Rattle.std.proofs.Common.{ap, ◌∙◌}
 use Rattle.engine.specs.Permutation.{block_size}
 use Rattle.cipher.specs.Blocks.{padded}
 use Rattle.cipher.specs.Mode.{streamed, opened_text}

@@ -1,4 +1,4 @@
-use Rattle.std.proofs.Common.{◌≡◌, Bool, Ok, ap, ◌∙◌}
+use Rattle.std.proofs.Common.{Bool, Ok, ap, ◌∙◌}
 use Rattle.std.specs.Str.{bytes_eq}
 use Rattle.cipher.specs.Mode.{tag, tag_from}
 use Rattle.cipher.proofs.checked.tag_is_right.Goals as goal

@@ -1,4 +1,4 @@
-use Rattle.std.proofs.Common.{◌≡◌, ℕ, ◌+◌, ◌-◌, ◌*◌, ◌≤◌, length, take, drop, sym, refl, ap, ◌∙◌, arith, length-drop, length-take}
+use Rattle.std.proofs.Common.{◌≡◌, ◌+◌, ◌-◌, ◌*◌, ◌≤◌, length, take, drop, refl, ap, ◌∙◌, arith, length-drop, length-take}
 use Rattle.engine.specs.Permutation.{permutation, block_size}
 use Rattle.engine.proofs.Blocks.{done_none, done_more, done_all}
 use Rattle.engine.proofs.Granted.{replaced_granted}

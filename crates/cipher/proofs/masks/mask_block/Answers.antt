@@ -1,4 +1,4 @@
-use Rattle.std.proofs.Common.{◌≡◌, sym, refl, ap, ◌∙◌}
+use Rattle.std.proofs.Common.{ap, ◌∙◌}
 use Rattle.cipher.specs.Blocks.{repeated}
 use Rattle.cipher.specs.Masks.{phi2}
 use Rattle.cipher.proofs.StreamLaws.{repeated_more}

@@ -1,4 +1,4 @@
-use Rattle.std.proofs.Common.{◌≡◌, ◌+◌, ◌*◌, ◌<◌, ◌≤◌, length, sym, refl, ap, ◌∙◌, arith}
+use Rattle.std.proofs.Common.{◌≡◌, ◌+◌, ◌*◌, ◌≤◌, length, sym, refl, ap, ◌∙◌, arith}
 use Rattle.engine.specs.Permutation.{block_size}
 use Rattle.cipher.specs.Blocks.{repeated}
 use Rattle.cipher.specs.Masks.{phi1, phi2, mask}

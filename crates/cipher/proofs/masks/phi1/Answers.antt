@@ -1,6 +1,6 @@
-use Rattle.std.proofs.Common.{◌≡◌, [], ◌∷◌, ◌++◌, length, sym, refl, ap, ◌∙◌, ap₂, arith, rules}
+use Rattle.std.proofs.Common.{rules}
 use Rattle.cipher.proofs.StepLaws.{moved_on}
-use Rattle.cipher.specs.Masks.{phi1, appended}
+use Rattle.cipher.specs.Masks.{phi1}
 use Rattle.cipher.proofs.masks.phi1.Goals as goal
 
 pub returns : goal.returns

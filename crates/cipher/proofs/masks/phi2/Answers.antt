@@ -1,6 +1,6 @@
-use Rattle.std.proofs.Common.{◌≡◌, sym, refl, ap, ◌∙◌, ap₂}
+use Rattle.std.proofs.Common.{◌∙◌, ap₂}
 use Rattle.cipher.specs.Blocks.{xored}
-use Rattle.cipher.specs.Masks.{phi1, phi2}
+use Rattle.cipher.specs.Masks.{phi2}
 use Rattle.cipher.proofs.masks.phi2.Goals as goal
 
 pub returns : goal.returns

@@ -1,4 +1,4 @@
-use Rattle.std.proofs.Common.{◌≡◌, ◌+◌, ◌*◌, ◌<◌, ◌≤◌, length, sym, refl, ap, ◌∙◌, arith, rules}
+use Rattle.std.proofs.Common.{◌≡◌, ◌+◌, ◌*◌, ◌≤◌, length, refl, arith, rules}
 use Rattle.cipher.proofs.StreamLaws.{laid_none, laid_more, laid_all, rows}
 use Rattle.cipher.proofs.streaming.copies.Goals as goal
 

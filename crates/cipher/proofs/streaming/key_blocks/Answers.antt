@@ -1,4 +1,4 @@
-use Rattle.std.proofs.Common.{◌≡◌, ◌*◌, length, sym, refl, ap, ◌∙◌, ap₂, arith}
+use Rattle.std.proofs.Common.{ap, ◌∙◌, ap₂}
 use Rattle.engine.specs.Permutation.{permutation, block_size, each}
 use Rattle.cipher.specs.Blocks.{repeated, stream, xored}
 use Rattle.cipher.specs.Masks.{phi1, mask}

@@ -1,4 +1,4 @@
-use Rattle.std.proofs.Common.{◌≡◌, ◌+◌, ◌-◌, ◌*◌, ◌≤◌, min, length, take, drop, sym, refl, ap, ◌∙◌, zero-mul, arith}
+use Rattle.std.proofs.Common.{◌+◌, ◌-◌, length, take, drop, sym, refl, zero-mul, arith}
 use Rattle.cipher.specs.Blocks.{repeated}
 use Rattle.cipher.specs.Groups.{group}
 use Rattle.cipher.proofs.GroupLaws.{stream_more_text, stream_all_text, same_width}

@@ -1,4 +1,4 @@
-use Rattle.std.proofs.Common.{◌≡◌, length, ◌∙◌}
+use Rattle.std.proofs.Common.{length}
 use Rattle.cipher.proofs.TagLaws.{pad_all}
 use Rattle.cipher.proofs.tagging.pad_into.Goals as goal
 

@@ -1,4 +1,4 @@
-use Rattle.std.proofs.Common.{◌≡◌, ℕ, ◌-◌, length, refl, ap, ◌∙◌, arith, rules}
+use Rattle.std.proofs.Common.{ℕ, length, refl, ap, ◌∙◌, rules}
 use Rattle.cipher.specs.Blocks.{padded}
 use Rattle.cipher.specs.Mode.{closed}
 use Rattle.cipher.proofs.TagLaws.{start_whole}

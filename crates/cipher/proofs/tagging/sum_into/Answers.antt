@@ -1,4 +1,4 @@
-use Rattle.std.proofs.Common.{◌≡◌, length, ◌∙◌, ap₂}
+use Rattle.std.proofs.Common.{length, ◌∙◌, ap₂}
 use Rattle.engine.specs.Permutation.{block_size}
 use Rattle.cipher.specs.Blocks.{parts}
 use Rattle.cipher.specs.Mode.{closed, absorbed, tag_sum}

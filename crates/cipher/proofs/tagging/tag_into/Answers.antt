@@ -1,6 +1,6 @@
-use Rattle.std.proofs.Common.{◌≡◌, ℕ, ◌-◌, length, take, sym, refl, ap, ◌∙◌, ap₂, arith, rules}
+use Rattle.std.proofs.Common.{◌≡◌, ◌-◌, length, take, refl, ap, ◌∙◌, ap₂, arith}
 use Rattle.engine.specs.Permutation.{block_size}
-use Rattle.cipher.specs.Mode.{tag_size, enciphered, tag_sum, tag_from}
+use Rattle.cipher.specs.Mode.{tag_size, enciphered, tag_from}
 use Rattle.cipher.proofs.Laws.{tag_sum_length}
 use Rattle.cipher.proofs.TagLaws.{enciphered_once}
 use Rattle.cipher.proofs.tagging.tag_into.Goals as goal
