@@ -1,21 +1,19 @@
 -- The laws of the cipher, for the layers above.
-use Rattle.std.proofs.Common.{◌≡◌, ℕ, zero, suc, ◌+◌, ◌-◌, ◌*◌, ◌<◌, ◌≤◌, Bool, true, false, cond, eqb, leb, ◌↔◌, List, [], ◌∷◌, ◌++◌, length, take, Ok, Err, Result, sym, refl, ap, ◌∙◌, ap₂, arith, lit≤, eq-eqb}
+use Rattle.std.proofs.Common.{◌≡◌, ℕ, zero, suc, ◌≤◌, Bool, true, false, cond, ◌↔◌, List, [], ◌∷◌, length, Ok, Err, Result, sym, refl, ap, ◌∙◌, ap₂, arith, lit≤, eq-eqb}
 use lib.Bits.{bit_xor, xor_assoc, xor_self, xor_zero_r}
 use Rattle.std.specs.Int.Digits.{number_from_digits, AllBelowBase}
 use Rattle.std.specs.Str.{bytes_eq}
 use Rattle.std.proofs.lemmas.Slice.Eq.{bytes_eq-Decides}
 use Rattle.std.proofs.lemmas.Bool.{le-leb}
-use Rattle.std.proofs.lemmas.List.{length-take-le, length-append}
-use Rattle.fault.specs.Checks.{granted, decided, Check}
-use Rattle.big_endian.specs.Numbers.{bytes_of}
+use Rattle.std.proofs.lemmas.List.{length-take-le}
+use Rattle.fault.specs.Checks.{granted}
 use Rattle.big_endian.proofs.Laws.{bytes_back}
-use Rattle.engine.specs.Permutation.{permutation, block_size}
-use Rattle.engine.proofs.Laws.{permutation_length}
+use Rattle.engine.specs.Permutation.{block_size}
 use Rattle.engine.specs.declared.variants.Variant.{Variant}
 use Rattle.engine.specs.declared.variants.Variant.TheVariants.{Dumbo, Jumbo, Delirium}
 use Rattle.cipher.specs.Blocks.{padded, part, parts, xored, stream, summed}
 use Rattle.cipher.specs.Masks.{first_mask}
-use Rattle.cipher.specs.Mode.{tag_size, streamed, sealed_text, opened_text, enciphered, key_block, closed, absorbed, associated_sum, tag_sum, tag_from, tag}
+use Rattle.cipher.specs.Mode.{tag_size, streamed, sealed_text, opened_text, enciphered, key_block, absorbed, associated_sum, tag_sum, tag_from, tag}
 use Rattle.cipher.specs.Calls.{CheckedText, check_answer, opened}
 use Rattle.cipher.specs.Theorems.{LawfulSizes, CipherLaws}
 use Rattle.cipher.specs.declared.faults.CipherFault.{CipherFault}

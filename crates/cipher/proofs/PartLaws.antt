@@ -1,6 +1,6 @@
 -- Loading a part of the bytes and 01.
 use Rattle.std.proofs.Common.{◌≡◌, ℕ, zero, suc, ◌+◌, ◌-◌, ◌*◌, ◌<◌, ◌≤◌, min, List, [], ◌∷◌, ◌++◌, length, take, drop, set, replicate, sym, refl, ap, ◌∙◌, ap₂, add-zero, zero-add, arith}
-use Rattle.std.proofs.lemmas.List.{length-take, length-replicate, length-drop, length-append, drop-replicate, drop_all, append-nil, append_assoc, take_all, set_at, drop-append-le, take-append-le}
+use Rattle.std.proofs.lemmas.List.{length-take, length-replicate, length-drop, length-append, drop-replicate, drop_all, append_assoc, take_all, set_at, drop-append-le, take-append-le}
 use Rattle.cipher.specs.Blocks.{padded, summed, xored, stream}
 use Rattle.cipher.proofs.StreamLaws.{stream_at}
 

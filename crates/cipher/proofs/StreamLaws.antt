@@ -1,14 +1,13 @@
 -- Blocks side by side: any block_size, any functions.
-use Rattle.std.proofs.Common.{◌≡◌, ℕ, zero, suc, ◌+◌, ◌-◌, ◌*◌, ◌/◌, ◌%◌, ◌<◌, ◌≤◌, min, List, [], ◌∷◌, ◌++◌, length, take, drop, sym, refl, ap, ◌∙◌, ap₂, ⊎_elim, add-zero, add_assoc, add-suc, suc-mul, add-mul, add_comm, suc-add, zero-add, zero-mul, add-one, arith}
+use Rattle.std.proofs.Common.{◌≡◌, ℕ, zero, suc, ◌+◌, ◌-◌, ◌*◌, ◌<◌, ◌≤◌, min, List, [], ◌∷◌, ◌++◌, length, take, drop, sym, refl, ap, ◌∙◌, ap₂, ⊎_elim, add-zero, suc-mul, suc-add, zero-add, zero-mul, add-one, arith}
 use lib.Bits.{bit_xor}
 use borrow.Rule.Slice.PartMut.{put_mid}
 use Rattle.std.proofs.lemmas.Bool.{cases_lt}
-use Rattle.std.proofs.lemmas.List.{append-nil, append_assoc, drop-drop, length-append, length-drop, take_at, drop_at, drop_all, take_all}
+use Rattle.std.proofs.lemmas.List.{append-nil, append_assoc, drop-drop, length-append, length-drop, take_at, drop_at, drop_all}
 use Rattle.std.proofs.lemmas.Nat.{mul-le}
 use Rattle.engine.specs.Permutation.{each}
 use Rattle.cipher.specs.Blocks.{xored, stream, summed, repeated}
-use Rattle.cipher.specs.Masks.{mask, phi1, phi2}
-use Rattle.cipher.proofs.XorLaws.{xored_nil, length_xored, xored_append, xored_part, xored_enough}
+use Rattle.cipher.proofs.XorLaws.{length_xored, xored_append, xored_part, xored_enough}
 
 pub length_stream : (f : ℕ → List ℕ) (n k i : ℕ) → ((q : ℕ) → length (f q) ≡ n) → length (stream f k i) ≡ k * n
 unfolding stream

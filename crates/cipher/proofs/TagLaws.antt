@@ -1,5 +1,5 @@
 -- The blocks that the tag is made of: padded strings, the sum's start, the parts after the first, and the last block.
-use Rattle.std.proofs.Common.{◌≡◌, ℕ, zero, suc, ◌+◌, ◌-◌, ◌*◌, ◌/◌, ◌<◌, ◌≤◌, List, [], ◌∷◌, ◌++◌, length, take, drop, replicate, sym, refl, ap, ◌∙◌, ap₂, add-zero, add-mul, add_comm, one-mul, zero-mul, arith}
+use Rattle.std.proofs.Common.{◌≡◌, ℕ, zero, suc, ◌+◌, ◌-◌, ◌*◌, ◌<◌, ◌≤◌, List, [], ◌∷◌, ◌++◌, length, take, drop, replicate, sym, ap, ◌∙◌, ap₂, add-zero, add-mul, add_comm, one-mul, zero-mul, arith}
 use borrow.Rule.Slice.PartMut.{put_mid}
 use Rattle.std.proofs.lemmas.List.{length-append, length-drop, take_all, drop_all, take_at, drop_at, append-nil, append_assoc, drop-drop, drop-append-le, drop-replicate}
 use Rattle.std.proofs.lemmas.Nat.{div_below}

@@ -4,7 +4,7 @@ use Rattle.std.specs.Int.Digits.{number_from_digits, AllBelowBase}
 use Rattle.fault.specs.Checks.{granted}
 use Rattle.engine.specs.declared.variants.Variant.{Variant}
 use Rattle.cipher.specs.Mode.{tag_size, tag, sealed_text, opened_text}
-use Rattle.cipher.specs.Calls.{CheckedText, check_answer, opened}
+use Rattle.cipher.specs.Calls.{check_answer, opened}
 
 -- All sizes of a text and its tag are lawful.
 pub record LawfulSizes (v : Variant) (key nonce ad text tag_place : List ℕ) : Type 0 where

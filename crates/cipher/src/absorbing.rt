@@ -72,15 +72,15 @@ fn absorb_group<E: Engine>(
 ) -> Result<(), CipherFault>
     requires near { at ≤ 100000 }
     requires count { count ≤ 4 }
-    requires running { length running.old ≡ block_size (kind engine.now) }
-    requires sum { length sum.old ≡ block_size (kind engine.now) }
-    requires masks { length masks.old ≡ 4 * block_size (kind engine.now) }
-    requires blocks { length blocks.old ≡ 4 * block_size (kind engine.now) }
-    requires spare { length spare.old ≡ block_size (kind engine.now) }
+    requires running { length running.old ≡ block_size (E.kind engine.now) }
+    requires sum { length sum.old ≡ block_size (E.kind engine.now) }
+    requires masks { length masks.old ≡ 4 * block_size (E.kind engine.now) }
+    requires blocks { length blocks.old ≡ 4 * block_size (E.kind engine.now) }
+    requires spare { length spare.old ≡ block_size (E.kind engine.now) }
     requires short { length blocks.old ≤ 100 }
     ensures granted { result ≡ Ok tt }
-    ensures sum { sum.new ≡ summed (λ q. enciphered (kind engine.now) running.old (padded (block_size (kind engine.now)) (drop (at + q * block_size (kind engine.now)) (closed bytes.now))) q j) count 0 sum.old }
-    ensures running { running.new ≡ repeated (first_phi (kind engine.now)) 4 running.old }
+    ensures sum { sum.new ≡ summed (λ q. enciphered (E.kind engine.now) running.old (padded (block_size (E.kind engine.now)) (drop (at + q * block_size (E.kind engine.now)) (closed bytes.now))) q j) count 0 sum.old }
+    ensures running { running.new ≡ repeated (first_phi (E.kind engine.now)) 4 running.old }
 {
     let v = engine.variant();
     load_group(bytes, at, v.block_bytes(), blocks, 4);
@@ -111,15 +111,15 @@ pub(crate) fn absorb<E: Engine>(
     spare: &mut [u8],
 ) -> Result<(), CipherFault>
     requires bytes { length bytes.now ≤ 65536 }
-    requires running { length running.old ≡ block_size (kind engine.now) }
-    requires sum { length sum.old ≡ block_size (kind engine.now) }
-    requires masks { length masks.old ≡ 4 * block_size (kind engine.now) }
-    requires blocks { length blocks.old ≡ 4 * block_size (kind engine.now) }
-    requires spare { length spare.old ≡ block_size (kind engine.now) }
+    requires running { length running.old ≡ block_size (E.kind engine.now) }
+    requires sum { length sum.old ≡ block_size (E.kind engine.now) }
+    requires masks { length masks.old ≡ 4 * block_size (E.kind engine.now) }
+    requires blocks { length blocks.old ≡ 4 * block_size (E.kind engine.now) }
+    requires spare { length spare.old ≡ block_size (E.kind engine.now) }
     requires short { length blocks.old ≤ 100 }
     requires some { 0 < length sum.old }
     ensures granted { result ≡ Ok tt }
-    ensures sum { sum.new ≡ absorbed (kind engine.now) running.old j (parts (block_size (kind engine.now)) (length (closed bytes.now))) 0 (closed bytes.now) sum.old }
+    ensures sum { sum.new ≡ absorbed (E.kind engine.now) running.old j (parts (block_size (E.kind engine.now)) (length (closed bytes.now))) 0 (closed bytes.now) sum.old }
 {
     let n = sum.len();
     let mut at = 0;

@@ -34,7 +34,7 @@ pub fn check<'a, E: Engine>(
     sealed: &'a [u8],
     tag: &[u8],
 ) -> Result<Checked<'a>, CipherFault>
-    ensures { check_seen result ≡ check_answer (kind engine.now) key.now nonce.now associated.now sealed.now tag.now }
+    ensures { check_seen result ≡ check_answer (E.kind engine.now) key.now nonce.now associated.now sealed.now tag.now }
 {
     let variant = engine.variant();
     check_sizes(variant, key, nonce, associated, sealed, tag)?;
@@ -62,8 +62,8 @@ fn tag_is_right<E: Engine>(
     requires nonce { length nonce.now ≡ 12 }
     requires associated { length associated.now ≤ 65536 }
     requires sealed { length sealed.now ≤ 65536 }
-    requires tag { length tag.now ≡ tag_size (kind engine.now) }
-    ensures { result ≡ Ok (bytes_eq tag.now (tag_of (kind engine.now) key.now nonce.now associated.now sealed.now)) }
+    requires tag { length tag.now ≡ tag_size (E.kind engine.now) }
+    ensures { result ≡ Ok (bytes_eq tag.now (tag_of (E.kind engine.now) key.now nonce.now associated.now sealed.now)) }
 {
     let n = engine.variant().block_bytes();
     let mut first = [0u8; MOST_BLOCK_BYTES];
@@ -161,7 +161,7 @@ fn open_sized<E: Engine>(
     requires nonce { length nonce.now ≡ 12 }
     requires out { length out.old ≡ length sealed.now }
     ensures granted { result ≡ Ok tt }
-    ensures out { out.new ≡ opened_text (kind engine.now) key.now nonce.now sealed.now }
+    ensures out { out.new ≡ opened_text (E.kind engine.now) key.now nonce.now sealed.now }
 {
     let n = engine.variant().block_bytes();
     let mut first = [0u8; MOST_BLOCK_BYTES];

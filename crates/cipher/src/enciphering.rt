@@ -9,9 +9,9 @@ use engine::Engine;
 
 // Permutes each of so many neighbouring blocks; four by one call.
 fn permute<E: Engine>(engine: &E, blocks: &mut [u8], count: usize) -> Result<(), CipherFault>
-    requires { length blocks.old ≡ count * block_size (kind engine.now) }
+    requires { length blocks.old ≡ count * block_size (E.kind engine.now) }
     ensures granted { result ≡ Ok tt }
-    ensures blocks { blocks.new ≡ each (permutation (kind engine.now)) (block_size (kind engine.now)) count blocks.old }
+    ensures blocks { blocks.new ≡ each (permutation (E.kind engine.now)) (block_size (E.kind engine.now)) count blocks.old }
 {
     if count == 4 {
         engine.four(blocks)?;
@@ -31,9 +31,9 @@ pub(crate) fn encipher<E: Engine>(
     blocks: &mut [u8],
     count: usize,
 ) -> Result<(), CipherFault>
-    requires { length blocks.old ≡ count * block_size (kind engine.now) }
+    requires { length blocks.old ≡ count * block_size (E.kind engine.now) }
     ensures granted { result ≡ Ok tt }
-    ensures blocks { blocks.new ≡ xored (each (permutation (kind engine.now)) (block_size (kind engine.now)) count (xored blocks.old masks.now)) masks.now }
+    ensures blocks { blocks.new ≡ xored (each (permutation (E.kind engine.now)) (block_size (E.kind engine.now)) count (xored blocks.old masks.now)) masks.now }
 {
     xor_into(blocks, masks);
     permute(engine, blocks, count)?;

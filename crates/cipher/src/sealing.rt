@@ -22,9 +22,9 @@ pub fn seal<E: Engine>(
     out: &mut [u8],
     tag: &mut [u8],
 ) -> Result<(), CipherFault>
-    ensures answer { result ≡ seal_answer (kind engine.now) key.now nonce.now associated.now text.now out.old tag.old }
-    ensures out { out.new ≡ left result (sealed_text (kind engine.now) key.now nonce.now text.now) out.old }
-    ensures tag { tag.new ≡ left result (tag_of (kind engine.now) key.now nonce.now associated.now (sealed_text (kind engine.now) key.now nonce.now text.now)) tag.old }
+    ensures answer { result ≡ seal_answer (E.kind engine.now) key.now nonce.now associated.now text.now out.old tag.old }
+    ensures out { out.new ≡ left result (sealed_text (E.kind engine.now) key.now nonce.now text.now) out.old }
+    ensures tag { tag.new ≡ left result (tag_of (E.kind engine.now) key.now nonce.now associated.now (sealed_text (E.kind engine.now) key.now nonce.now text.now)) tag.old }
 {
     check_sizes(engine.variant(), key, nonce, associated, text, tag)?;
     if out.len() != text.len() {
@@ -47,11 +47,11 @@ fn seal_sized<E: Engine>(
     requires nonce { length nonce.now ≡ 12 }
     requires associated { length associated.now ≤ 65536 }
     requires text { length text.now ≤ 65536 }
-    requires tag { length tag.old ≡ tag_size (kind engine.now) }
+    requires tag { length tag.old ≡ tag_size (E.kind engine.now) }
     requires out { length out.old ≡ length text.now }
     ensures granted { result ≡ Ok tt }
-    ensures out { out.new ≡ sealed_text (kind engine.now) key.now nonce.now text.now }
-    ensures tag { tag.new ≡ tag_of (kind engine.now) key.now nonce.now associated.now (sealed_text (kind engine.now) key.now nonce.now text.now) }
+    ensures out { out.new ≡ sealed_text (E.kind engine.now) key.now nonce.now text.now }
+    ensures tag { tag.new ≡ tag_of (E.kind engine.now) key.now nonce.now associated.now (sealed_text (E.kind engine.now) key.now nonce.now text.now) }
 {
     let n = engine.variant().block_bytes();
     let mut first = [0u8; MOST_BLOCK_BYTES];
@@ -69,11 +69,11 @@ pub(crate) fn stream_from<E: Engine>(
     text: &[u8],
     out: &mut [u8],
 ) -> Result<(), CipherFault>
-    requires first { length first.now ≡ block_size (kind engine.now) }
+    requires first { length first.now ≡ block_size (E.kind engine.now) }
     requires nonce { length nonce.now ≡ 12 }
     requires out { length out.old ≡ length text.now }
     ensures granted { result ≡ Ok tt }
-    ensures out { out.new ≡ streamed (kind engine.now) first.now (padded (block_size (kind engine.now)) nonce.now) text.now }
+    ensures out { out.new ≡ streamed (E.kind engine.now) first.now (padded (block_size (E.kind engine.now)) nonce.now) text.now }
 {
     let n = engine.variant().block_bytes();
     let mut nonce_block = [0u8; MOST_BLOCK_BYTES];

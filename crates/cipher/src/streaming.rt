@@ -33,14 +33,14 @@ fn key_blocks<E: Engine>(
     spare: &mut [u8],
     count: usize,
 ) -> Result<(), CipherFault>
-    requires nonce { length nonce_block.now ≡ block_size (kind engine.now) }
-    requires running { length running.old ≡ block_size (kind engine.now) }
-    requires masks { length masks.old ≡ count * block_size (kind engine.now) }
-    requires blocks { length blocks.old ≡ count * block_size (kind engine.now) }
-    requires spare { length spare.old ≡ block_size (kind engine.now) }
+    requires nonce { length nonce_block.now ≡ block_size (E.kind engine.now) }
+    requires running { length running.old ≡ block_size (E.kind engine.now) }
+    requires masks { length masks.old ≡ count * block_size (E.kind engine.now) }
+    requires blocks { length blocks.old ≡ count * block_size (E.kind engine.now) }
+    requires spare { length spare.old ≡ block_size (E.kind engine.now) }
     ensures granted { result ≡ Ok tt }
-    ensures blocks { blocks.new ≡ stream (key_block (kind engine.now) running.old nonce_block.now) count 0 }
-    ensures running { running.new ≡ repeated (first_phi (kind engine.now)) count running.old }
+    ensures blocks { blocks.new ≡ stream (key_block (E.kind engine.now) running.old nonce_block.now) count 0 }
+    ensures running { running.new ≡ repeated (first_phi (E.kind engine.now)) count running.old }
 {
     let v = engine.variant();
     masks_into(v, running, 1, masks, count, spare);
@@ -59,15 +59,15 @@ fn stream_group<E: Engine>(
     blocks: &mut [u8],
     spare: &mut [u8],
 ) -> Result<(), CipherFault>
-    requires nonce { length nonce_block.now ≡ block_size (kind engine.now) }
-    requires running { length running.old ≡ block_size (kind engine.now) }
+    requires nonce { length nonce_block.now ≡ block_size (E.kind engine.now) }
+    requires running { length running.old ≡ block_size (E.kind engine.now) }
     requires out { length out.old ≡ length part.now }
-    requires masks { length masks.old ≡ 4 * block_size (kind engine.now) }
-    requires blocks { length blocks.old ≡ 4 * block_size (kind engine.now) }
-    requires spare { length spare.old ≡ block_size (kind engine.now) }
+    requires masks { length masks.old ≡ 4 * block_size (E.kind engine.now) }
+    requires blocks { length blocks.old ≡ 4 * block_size (E.kind engine.now) }
+    requires spare { length spare.old ≡ block_size (E.kind engine.now) }
     ensures granted { result ≡ Ok tt }
-    ensures out { out.new ≡ xored part.now (stream (key_block (kind engine.now) running.old nonce_block.now) (group (kind engine.now) part.now) 0) }
-    ensures running { running.new ≡ repeated (first_phi (kind engine.now)) (group (kind engine.now) part.now) running.old }
+    ensures out { out.new ≡ xored part.now (stream (key_block (E.kind engine.now) running.old nonce_block.now) (group (E.kind engine.now) part.now) 0) }
+    ensures running { running.new ≡ repeated (first_phi (E.kind engine.now)) (group (E.kind engine.now) part.now) running.old }
 {
     let n = nonce_block.len();
     out.copy_from_slice(part);
@@ -101,14 +101,14 @@ pub(crate) fn stream_text<E: Engine>(
     blocks: &mut [u8],
     spare: &mut [u8],
 ) -> Result<(), CipherFault>
-    requires nonce { length nonce_block.now ≡ block_size (kind engine.now) }
-    requires running { length running.old ≡ block_size (kind engine.now) }
+    requires nonce { length nonce_block.now ≡ block_size (E.kind engine.now) }
+    requires running { length running.old ≡ block_size (E.kind engine.now) }
     requires out { length out.old ≡ length text.now }
-    requires masks { length masks.old ≡ 4 * block_size (kind engine.now) }
-    requires blocks { length blocks.old ≡ 4 * block_size (kind engine.now) }
-    requires spare { length spare.old ≡ block_size (kind engine.now) }
+    requires masks { length masks.old ≡ 4 * block_size (E.kind engine.now) }
+    requires blocks { length blocks.old ≡ 4 * block_size (E.kind engine.now) }
+    requires spare { length spare.old ≡ block_size (E.kind engine.now) }
     ensures granted { result ≡ Ok tt }
-    ensures out { out.new ≡ streamed (kind engine.now) running.old nonce_block.now text.now }
+    ensures out { out.new ≡ streamed (E.kind engine.now) running.old nonce_block.now text.now }
 {
     let n = nonce_block.len();
     let mut at = 0;

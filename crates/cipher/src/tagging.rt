@@ -29,9 +29,9 @@ pub(crate) fn first_mask_into<E: Engine>(
     first: &mut [u8],
 ) -> Result<(), CipherFault>
     requires key { length key.now ≡ 16 }
-    requires first { length first.old ≡ block_size (kind engine.now) }
+    requires first { length first.old ≡ block_size (E.kind engine.now) }
     ensures granted { result ≡ Ok tt }
-    ensures first { first.new ≡ first_mask (kind engine.now) key.now }
+    ensures first { first.new ≡ first_mask (E.kind engine.now) key.now }
 {
     pad_into(key, first);
     engine.one(first)?;
@@ -61,16 +61,16 @@ fn absorb_associated<E: Engine>(
     blocks: &mut [u8],
     spare: &mut [u8],
 ) -> Result<(), CipherFault>
-    requires first { length first.now ≡ block_size (kind engine.now) }
+    requires first { length first.now ≡ block_size (E.kind engine.now) }
     requires nonce { length nonce.now ≡ 12 }
     requires associated { length associated.now ≤ 65536 }
-    requires running { length running.old ≡ block_size (kind engine.now) }
-    requires sum { length sum.old ≡ block_size (kind engine.now) }
-    requires masks { length masks.old ≡ 4 * block_size (kind engine.now) }
-    requires blocks { length blocks.old ≡ 4 * block_size (kind engine.now) }
-    requires spare { length spare.old ≡ block_size (kind engine.now) }
+    requires running { length running.old ≡ block_size (E.kind engine.now) }
+    requires sum { length sum.old ≡ block_size (E.kind engine.now) }
+    requires masks { length masks.old ≡ 4 * block_size (E.kind engine.now) }
+    requires blocks { length blocks.old ≡ 4 * block_size (E.kind engine.now) }
+    requires spare { length spare.old ≡ block_size (E.kind engine.now) }
     ensures granted { result ≡ Ok tt }
-    ensures sum { sum.new ≡ associated_sum (kind engine.now) first.now nonce.now associated.now }
+    ensures sum { sum.new ≡ associated_sum (E.kind engine.now) first.now nonce.now associated.now }
 {
     let v = engine.variant();
     start_sum(nonce, associated, sum);
@@ -105,17 +105,17 @@ fn sum_into<E: Engine>(
     blocks: &mut [u8],
     spare: &mut [u8],
 ) -> Result<(), CipherFault>
-    requires first { length first.now ≡ block_size (kind engine.now) }
+    requires first { length first.now ≡ block_size (E.kind engine.now) }
     requires nonce { length nonce.now ≡ 12 }
     requires associated { length associated.now ≤ 65536 }
     requires sealed { length sealed.now ≤ 65536 }
-    requires running { length running.old ≡ block_size (kind engine.now) }
-    requires sum { length sum.old ≡ block_size (kind engine.now) }
-    requires masks { length masks.old ≡ 4 * block_size (kind engine.now) }
-    requires blocks { length blocks.old ≡ 4 * block_size (kind engine.now) }
-    requires spare { length spare.old ≡ block_size (kind engine.now) }
+    requires running { length running.old ≡ block_size (E.kind engine.now) }
+    requires sum { length sum.old ≡ block_size (E.kind engine.now) }
+    requires masks { length masks.old ≡ 4 * block_size (E.kind engine.now) }
+    requires blocks { length blocks.old ≡ 4 * block_size (E.kind engine.now) }
+    requires spare { length spare.old ≡ block_size (E.kind engine.now) }
     ensures granted { result ≡ Ok tt }
-    ensures sum { sum.new ≡ tag_sum (kind engine.now) first.now nonce.now associated.now sealed.now }
+    ensures sum { sum.new ≡ tag_sum (E.kind engine.now) first.now nonce.now associated.now sealed.now }
 {
     absorb_associated(
         engine, first, nonce, associated, running, sum, masks, blocks, spare,
@@ -133,13 +133,13 @@ pub(crate) fn tag_into<E: Engine>(
     sealed: &[u8],
     tag: &mut [u8],
 ) -> Result<(), CipherFault>
-    requires first { length first.now ≡ block_size (kind engine.now) }
+    requires first { length first.now ≡ block_size (E.kind engine.now) }
     requires nonce { length nonce.now ≡ 12 }
     requires associated { length associated.now ≤ 65536 }
     requires sealed { length sealed.now ≤ 65536 }
-    requires tag { length tag.old ≡ tag_size (kind engine.now) }
+    requires tag { length tag.old ≡ tag_size (E.kind engine.now) }
     ensures granted { result ≡ Ok tt }
-    ensures tag { tag.new ≡ tag_from (kind engine.now) first.now nonce.now associated.now sealed.now }
+    ensures tag { tag.new ≡ tag_from (E.kind engine.now) first.now nonce.now associated.now sealed.now }
 {
     let n = engine.variant().block_bytes();
     let mut running = [0u8; MOST_BLOCK_BYTES];

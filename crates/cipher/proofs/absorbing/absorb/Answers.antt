@@ -1,4 +1,4 @@
-use Rattle.std.proofs.Common.{◌≡◌, ℕ, ◌+◌, ◌-◌, ◌*◌, ◌<◌, ◌≤◌, min, List, [], ◌∷◌, ◌++◌, length, take, drop, sym, refl, ap, ◌∙◌, ap₂, add_comm, zero-mul, arith, rules}
+use Rattle.std.proofs.Common.{◌+◌, [], ◌∷◌, ◌++◌, length, sym, refl, ap, ◌∙◌, add_comm, zero-mul, arith}
 use Rattle.engine.specs.Permutation.{block_size}
 use Rattle.cipher.specs.Blocks.{repeated, part, parts}
 use Rattle.cipher.specs.Masks.{phi1}
@@ -24,13 +24,13 @@ loop-at-preserved g c =
     let n = length c.args.sum.now in
     let k = c.loop-at.k in
     let at = c.loop-at.at in
-    let cs = counts v n k at (length c.args.bytes.now) c.parts-left-count.result c.requires.sum c.loop-at.invariant.2 (omega arith) c.parts-left-count.ensures in (
+    let cs = counts v n k at (length c.args.bytes.now) c.parts_left-count.result c.requires.sum c.loop-at.invariant.2 (omega arith) c.parts_left-count.ensures in (
       omega arith,
       omega arith,
       next_place at k n (block_size v) c.requires.sum c.loop-at.invariant.2,
-      c.absorb-group.ensures.running ∙ ap (repeated (phi1 v) 4) c.loop-at.invariant.3 ∙ repeated_add (phi1 v) 4 k c.args.running.now ∙ ap (λ z. repeated (phi1 v) z c.args.running.now) (add_comm 4 k),
-      absorb_more v c.args.running.now c.loop-at.running (c.args.bytes.now ++ (1 ∷ [])) c.args.sum.now c.loop-at.sum c.absorb-group.new.sum c.args.j k c.parts-left-count.result at
-          (parts (block_size v) (length c.args.bytes.now + 1)) c.loop-at.invariant.2 c.loop-at.invariant.3 cs.0 cs.1 c.loop-at.invariant.4 c.absorb-group.ensures.sum,
+      c.absorb_group.ensures.running ∙ ap (repeated (phi1 v) 4) c.loop-at.invariant.3 ∙ repeated_add (phi1 v) 4 k c.args.running.now ∙ ap (λ z. repeated (phi1 v) z c.args.running.now) (add_comm 4 k),
+      absorb_more v c.args.running.now c.loop-at.running (c.args.bytes.now ++ (1 ∷ [])) c.args.sum.now c.loop-at.sum c.absorb_group.new.sum c.args.j k c.parts_left-count.result at
+          (parts (block_size v) (length c.args.bytes.now + 1)) c.loop-at.invariant.2 c.loop-at.invariant.3 cs.0 cs.1 c.loop-at.invariant.4 c.absorb_group.ensures.sum,
     )
 
 pub returns : goal.returns

@@ -1,4 +1,4 @@
-use Rattle.std.proofs.Common.{◌≡◌, ◌*◌, length, take, drop}
+use Rattle.std.proofs.Common.{◌≡◌, ◌*◌, take, drop}
 use Rattle.cipher.specs.Blocks.{summed}
 use Rattle.cipher.proofs.absorbing.add_blocks.Given as goal
 

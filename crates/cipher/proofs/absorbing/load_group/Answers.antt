@@ -1,4 +1,4 @@
-use Rattle.std.proofs.Common.{◌≡◌, ℕ, ◌+◌, ◌-◌, ◌*◌, ◌<◌, ◌≤◌, List, [], ◌∷◌, ◌++◌, length, take, drop, sym, refl, ap, ◌∙◌, arith, length-drop, length-take, rules}
+use Rattle.std.proofs.Common.{◌≡◌, ◌+◌, ◌*◌, ◌≤◌, [], ◌∷◌, ◌++◌, length, drop, ap, ◌∙◌, arith, rules}
 use Rattle.cipher.specs.Blocks.{padded}
 use Rattle.cipher.proofs.StreamLaws.{laid_none, laid_more, laid_all, rows}
 use Rattle.cipher.proofs.PartLaws.{padded_length, part_size}
@@ -12,20 +12,20 @@ loop-q-preserved c =
     let n = c.args.n in
     let q = c.loop-q.q in
     let fits : q * n + n ≤ length c.args.blocks.now = rw c.requires.long (rows q c.args.count n (omega arith)) in
-    laid_more (λ q. padded n (drop (c.args.at + q * n) (c.args.bytes.now ++ (1 ∷ [])))) n q c.args.blocks.now c.loop-q.blocks c.load-from.new.block
-    (λ k. padded_length n _) fits c.loop-q.invariant (c.load-from.ensures ∙ ap (λ z. padded z (drop (c.args.at + q * n) (c.args.bytes.now ++ (1 ∷ [])))) (part_size (q * n) n c.loop-q.blocks (rw c.loop-q.auto.blocks fits)))
+    laid_more (λ q. padded n (drop (c.args.at + q * n) (c.args.bytes.now ++ (1 ∷ [])))) n q c.args.blocks.now c.loop-q.blocks c.load_from.new.block
+    (λ k. padded_length n _) fits c.loop-q.invariant (c.load_from.ensures ∙ ap (λ z. padded z (drop (c.args.at + q * n) (c.args.bytes.now ++ (1 ∷ [])))) (part_size (q * n) n c.loop-q.blocks (rw c.loop-q.auto.blocks fits)))
 
 pub returns : goal.returns
 returns c =
     let end : c.loop-q.q ≡ c.args.count = omega arith in
     rw (← end) (laid_all (λ q. padded c.args.n (drop (c.args.at + q * c.args.n) (c.args.bytes.now ++ (1 ∷ [])))) c.args.n c.loop-q.q c.args.blocks.now c.loop-q.blocks (rw end c.requires.long) c.loop-q.invariant)
 
-pub overflow-add-at : goal.overflow-add-at
-overflow-add-at c =
+pub overflow_add-at : goal.overflow_add-at
+overflow_add-at c =
     let fits : c.loop-q.q * c.args.n + c.args.n ≤ c.args.count * c.args.n = rows c.loop-q.q c.args.count c.args.n (omega arith) in
     search rules
 
-pub slice-bounds-load-from-end : goal.slice-bounds-load-from-end
-slice-bounds-load-from-end c =
+pub slice_bounds-load_from-end : goal.slice_bounds-load_from-end
+slice_bounds-load_from-end c =
     let fits : c.loop-q.q * c.args.n + c.args.n ≤ c.args.count * c.args.n = rows c.loop-q.q c.args.count c.args.n (omega arith) in
     search rules

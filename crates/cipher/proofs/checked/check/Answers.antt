@@ -1,4 +1,4 @@
-use Rattle.std.proofs.Common.{◌≡◌, ℕ, ◌≤◌, Bool, true, cond, List, length, Ok, Err, Result, sym, refl, ap, ◌∙◌, ap₂, arith, rules}
+use Rattle.std.proofs.Common.{◌≡◌, ℕ, ◌≤◌, true, cond, List, length, Ok, Err, Result, sym, ap, ◌∙◌, ap₂, arith, rules}
 use Rattle.std.specs.Int.Digits.{number_from_digits}
 use Rattle.std.specs.Str.{bytes_eq}
 use Rattle.std.proofs.lemmas.List.{take_all}
@@ -32,6 +32,6 @@ returns g c =
     let lt : length c.args.sealed.now ≤ 65536 = search rules in
     let lg : length c.args.tag.now ≡ tag_size v = search rules in
     let right : bytes_eq c.args.tag.now (tag v key nonce c.args.associated.now c.args.sealed.now) ≡ true = search rules in
-    passed v c.variant-variant.result c.number-of.result c.number-of-2.result key nonce c.args.associated.now c.args.sealed.now c.args.tag.now
+    passed v c.variant-variant.result c.number_of.result c.number_of-2.result key nonce c.args.associated.now c.args.sealed.now c.args.tag.now
     (record { key_length = lk; nonce_length = ln; associated_length = la; text_length = lt; tag_length = lg }) right c.variant-variant.ensures.answer
-    (c.number-of.ensures ∙ ap (number_from_digits 256) (take_all 16 key (omega arith))) (c.number-of-2.ensures ∙ ap (number_from_digits 256) (take_all 16 nonce (omega arith)))
+    (c.number_of.ensures ∙ ap (number_from_digits 256) (take_all 16 key (omega arith))) (c.number_of-2.ensures ∙ ap (number_from_digits 256) (take_all 16 nonce (omega arith)))

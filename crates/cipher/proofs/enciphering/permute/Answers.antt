@@ -1,4 +1,4 @@
-use Rattle.std.proofs.Common.{◌≡◌, ℕ, ◌+◌, ◌-◌, ◌*◌, ◌≤◌, length, take, drop, sym, refl, ap, ◌∙◌, arith, length-drop, length-take}
+use Rattle.std.proofs.Common.{◌≡◌, ◌+◌, ◌-◌, ◌*◌, ◌≤◌, length, take, drop, refl, ap, ◌∙◌, arith, length-drop, length-take}
 use Rattle.engine.specs.Permutation.{permutation, block_size}
 use Rattle.engine.proofs.Blocks.{done_none, done_more, done_all}
 use Rattle.engine.proofs.Granted.{replaced_granted}
@@ -6,14 +6,14 @@ use Rattle.cipher.proofs.StreamLaws.{rows}
 use Rattle.cipher.proofs.enciphering.permute.Goals as goal
 
 pub loop-i-init : goal.loop-i-init
-loop-i-init g c = done_none (permutation (g.E.Engine.kind c.args.engine.now)) c.block-bytes-n.result c.args.blocks.now
+loop-i-init g c = done_none (permutation (g.E.Engine.kind c.args.engine.now)) c.block_bytes-n.result c.args.blocks.now
 
 pub loop-i-preserved : goal.loop-i-preserved
 loop-i-preserved g c =
     let v = g.E.Engine.kind c.args.engine.now in
-    let n = c.block-bytes-n.result in
+    let n = c.block_bytes-n.result in
     let i = c.loop-i.i in
-    let wide : n ≡ block_size v = c.block-bytes-n.ensures ∙ ap block_size c.variant.ensures.answer in
+    let wide : n ≡ block_size v = c.block_bytes-n.ensures ∙ ap block_size c.variant.ensures.answer in
     let fits : i * n + n ≤ length c.args.blocks.now = rw (c.requires, ← wide) (rows i c.args.count n (omega arith)) in
     let old = take (i * n + n - i * n) (drop (i * n) c.loop-i.blocks) in
     let long : length old ≡ block_size v =
@@ -24,7 +24,7 @@ loop-i-preserved g c =
 pub returns : goal.returns
 returns g c =
     let v = g.E.Engine.kind c.args.engine.now in
-    let wide : c.block-bytes-n.result ≡ block_size v = c.block-bytes-n.ensures ∙ ap block_size c.variant.ensures.answer in
+    let wide : c.block_bytes-n.result ≡ block_size v = c.block_bytes-n.ensures ∙ ap block_size c.variant.ensures.answer in
     let end : c.loop-i.i ≡ c.args.count = omega arith in
     record {
       granted = refl;

@@ -1,5 +1,4 @@
-use Rattle.std.proofs.Common.{◌≡◌}
-use Rattle.engine.specs.Permutation.{block_size, permutation}
+use Rattle.engine.specs.Permutation.{permutation}
 use Rattle.engine.proofs.Blocks.{Done}
 use Rattle.cipher.proofs.enciphering.permute.Given as goal
 

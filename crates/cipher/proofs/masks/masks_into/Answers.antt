@@ -1,4 +1,4 @@
-use Rattle.std.proofs.Common.{◌≡◌, ◌+◌, ◌*◌, ◌<◌, ◌≤◌, length, sym, refl, ap, ◌∙◌, arith}
+use Rattle.std.proofs.Common.{◌≡◌, ◌+◌, ◌*◌, ◌≤◌, length, sym, refl, ap, ◌∙◌, arith}
 use Rattle.engine.specs.Permutation.{block_size}
 use Rattle.cipher.specs.Blocks.{repeated}
 use Rattle.cipher.specs.Masks.{phi1, phi2, mask}
@@ -20,8 +20,8 @@ loop-q-preserved c =
     let wide : n ≡ block_size v = c.requires.running in
     let fits : q * n + n ≤ length c.args.masks.now = rw (c.requires.masks, ← wide) (rows q c.args.count n (omega arith)) in (
       c.phi1.ensures ∙ ap (phi1 v) c.loop-q.invariant.0 ∙ repeated_more (phi1 v) q l,
-      laid_more (λ q. mask v l q c.args.j) n q c.args.masks.now c.loop-q.masks c.mask-block.new.out
-          (λ k. mask_length v l k c.args.j wide ∙ sym wide) fits c.loop-q.invariant.1 (c.mask-block.ensures ∙ ap (repeated (phi2 v) c.args.j) c.loop-q.invariant.0),
+      laid_more (λ q. mask v l q c.args.j) n q c.args.masks.now c.loop-q.masks c.mask_block.new.out
+          (λ k. mask_length v l k c.args.j wide ∙ sym wide) fits c.loop-q.invariant.1 (c.mask_block.ensures ∙ ap (repeated (phi2 v) c.args.j) c.loop-q.invariant.0),
     )
 
 pub returns : goal.returns

@@ -1,8 +1,8 @@
-use Rattle.std.proofs.Common.{◌≡◌, [], ◌∷◌, ◌++◌, length, sym, refl, ap, ◌∙◌, ap₂, arith, rules}
+use Rattle.std.proofs.Common.{rules}
 use Rattle.cipher.proofs.StepLaws.{moved_on}
-use Rattle.cipher.specs.Masks.{phi1, appended}
+use Rattle.cipher.specs.Masks.{phi1}
 use Rattle.cipher.proofs.masks.phi1.Goals as goal
 
 pub returns : goal.returns
 unfolding phi1
-returns c = moved_on c.args.block.now c.copy-within.new.self c.appended-byte-last.result _ (search rules) c.copy-within.ensures.after c.appended-byte-last.ensures
+returns c = moved_on c.args.block.now c.copy_within.new.self c.appended_byte-last.result _ (search rules) c.copy_within.ensures.after c.appended_byte-last.ensures

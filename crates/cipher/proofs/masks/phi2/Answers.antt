@@ -1,8 +1,8 @@
-use Rattle.std.proofs.Common.{◌≡◌, sym, refl, ap, ◌∙◌, ap₂}
+use Rattle.std.proofs.Common.{◌∙◌, ap₂}
 use Rattle.cipher.specs.Blocks.{xored}
-use Rattle.cipher.specs.Masks.{phi1, phi2}
+use Rattle.cipher.specs.Masks.{phi2}
 use Rattle.cipher.proofs.masks.phi2.Goals as goal
 
 pub returns : goal.returns
 unfolding phi2
-returns c = c.xor-into.ensures ∙ ap₂ xored c.phi1.ensures c.copy-from-slice.ensures.after
+returns c = c.xor_into.ensures ∙ ap₂ xored c.phi1.ensures c.copy_from_slice.ensures.after

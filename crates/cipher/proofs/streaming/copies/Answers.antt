@@ -1,4 +1,4 @@
-use Rattle.std.proofs.Common.{◌≡◌, ◌+◌, ◌*◌, ◌<◌, ◌≤◌, length, sym, refl, ap, ◌∙◌, arith, rules}
+use Rattle.std.proofs.Common.{◌≡◌, ◌+◌, ◌*◌, ◌≤◌, length, refl, arith, rules}
 use Rattle.cipher.proofs.StreamLaws.{laid_none, laid_more, laid_all, rows}
 use Rattle.cipher.proofs.streaming.copies.Goals as goal
 
@@ -10,7 +10,7 @@ loop-q-preserved c =
     let x = c.args.block.now in
     let q = c.loop-q.q in
     let fits : q * length x + length x ≤ length c.args.blocks.now = rw c.requires (rows q c.args.count (length x) (omega arith)) in
-    laid_more (λ _. x) (length x) q c.args.blocks.now c.loop-q.blocks c.copy-from-slice.new.self (λ _. refl) fits c.loop-q.invariant c.copy-from-slice.ensures.after
+    laid_more (λ _. x) (length x) q c.args.blocks.now c.loop-q.blocks c.copy_from_slice.new.self (λ _. refl) fits c.loop-q.invariant c.copy_from_slice.ensures.after
 
 pub returns : goal.returns
 returns c =
@@ -18,8 +18,8 @@ returns c =
     let end : c.loop-q.q ≡ c.args.count = omega arith in
     rw (← end) (laid_all (λ _. x) (length x) c.loop-q.q c.args.blocks.now c.loop-q.blocks (rw end c.requires) c.loop-q.invariant)
 
-pub slice-bounds-copy-from-slice-end : goal.slice-bounds-copy-from-slice-end
-slice-bounds-copy-from-slice-end c =
+pub slice_bounds-copy_from_slice-end : goal.slice_bounds-copy_from_slice-end
+slice_bounds-copy_from_slice-end c =
     let x = c.args.block.now in
     let q = c.loop-q.q in
     let fits : q * length x + length x ≤ length c.args.blocks.now = rw c.requires (rows q c.args.count (length x) (omega arith)) in

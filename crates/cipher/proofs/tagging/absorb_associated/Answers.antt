@@ -1,4 +1,4 @@
-use Rattle.std.proofs.Common.{◌≡◌, ℕ, ◌-◌, ◌<◌, ◌≤◌, List, ◌++◌, length, take, drop, sym, refl, ap, ◌∙◌, ap₂, arith}
+use Rattle.std.proofs.Common.{◌≡◌, ◌-◌, ◌++◌, length, take, drop, refl, ap, ◌∙◌, ap₂, arith}
 use Rattle.std.proofs.lemmas.List.{take_all, length-drop}
 use Rattle.engine.specs.Permutation.{block_size}
 use Rattle.cipher.specs.Blocks.{part, parts}
@@ -13,11 +13,11 @@ returns-then-associated-within g c =
     let v = g.E.Engine.kind c.args.engine.now in
     let nonce = c.args.nonce.now in
     let ad = c.args.associated.now in
-    let wide : c.block-bytes-within.result ≡ block_size v = c.block-bytes-within.ensures ∙ ap block_size c.variant-v.ensures.answer in
+    let wide : c.block_bytes-within.result ≡ block_size v = c.block_bytes-within.ensures ∙ ap block_size c.variant-v.ensures.answer in
     record {
       granted = refl;
       sum =
-          c.start-sum.ensures ∙ ap (λ n. part n 0 (nonce ++ closed ad)) c.requires.sum
+          c.start_sum.ensures ∙ ap (λ n. part n 0 (nonce ++ closed ad)) c.requires.sum
           ∙ associated_short v c.args.first.now nonce ad c.requires.nonce (omega arith);
     }
 
@@ -28,11 +28,11 @@ returns g c =
     let first = c.args.first.now in
     let nonce = c.args.nonce.now in
     let ad = c.args.associated.now in
-    let w = c.block-bytes-within.result - 12 in
+    let w = c.block_bytes-within.result - 12 in
     let rest = take (length ad - w) (drop w ad) in
-    let wide : c.block-bytes-within.result ≡ n = c.block-bytes-within.ensures ∙ ap block_size c.variant-v.ensures.answer in
-    let start = c.start-sum.ensures ∙ ap (λ n. part n 0 (nonce ++ closed ad)) c.requires.sum in
-    let mask : c.phi1.new.block ≡ phi1 v first = c.phi1.ensures ∙ ap₂ phi1 c.variant-v.ensures.answer c.copy-from-slice.ensures.after in
+    let wide : c.block_bytes-within.result ≡ n = c.block_bytes-within.ensures ∙ ap block_size c.variant-v.ensures.answer in
+    let start = c.start_sum.ensures ∙ ap (λ n. part n 0 (nonce ++ closed ad)) c.requires.sum in
+    let mask : c.phi1.new.block ≡ phi1 v first = c.phi1.ensures ∙ ap₂ phi1 c.variant-v.ensures.answer c.copy_from_slice.ensures.after in
     let whole : rest ≡ drop (n - 12) ad = take_all (length ad - w) (drop w ad) (omega (arith, length-drop w ad)) ∙ ap (λ m. drop (m - 12) ad) wide in
     record {
       granted = c.absorb.ensures.granted;

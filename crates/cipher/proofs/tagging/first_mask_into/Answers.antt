@@ -11,10 +11,10 @@ unfolding first_mask
 returns g c =
     let v = g.E.Engine.kind c.args.engine.now in
     let key = c.args.key.now in
-    let block : c.pad-into.new.block ≡ padded (block_size v) key = c.pad-into.ensures ∙ ap (λ n. padded n key) c.requires.first in
+    let block : c.pad_into.new.block ≡ padded (block_size v) key = c.pad_into.ensures ∙ ap (λ n. padded n key) c.requires.first in
     record {
       granted = refl;
       first =
           c.one.ensures.block
-          ∙ replaced_granted (block_size v) (permutation v) c.pad-into.new.block (ap length block ∙ padded_length (block_size v) key) ∙ ap (permutation v) block;
+          ∙ replaced_granted (block_size v) (permutation v) c.pad_into.new.block (ap length block ∙ padded_length (block_size v) key) ∙ ap (permutation v) block;
     }

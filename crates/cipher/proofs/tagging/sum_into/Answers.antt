@@ -1,4 +1,4 @@
-use Rattle.std.proofs.Common.{◌≡◌, length, ◌∙◌, ap₂}
+use Rattle.std.proofs.Common.{length, ◌∙◌, ap₂}
 use Rattle.engine.specs.Permutation.{block_size}
 use Rattle.cipher.specs.Blocks.{parts}
 use Rattle.cipher.specs.Mode.{closed, absorbed, tag_sum}
@@ -13,5 +13,5 @@ returns g c =
       granted = c.absorb.ensures.granted;
       sum =
           c.absorb.ensures.sum
-          ∙ ap₂ (λ m b. absorbed v m 2 (parts (block_size v) (length s)) 0 s b) c.copy-from-slice.ensures.after c.absorb-associated.ensures.sum;
+          ∙ ap₂ (λ m b. absorbed v m 2 (parts (block_size v) (length s)) 0 s b) c.copy_from_slice.ensures.after c.absorb_associated.ensures.sum;
     }

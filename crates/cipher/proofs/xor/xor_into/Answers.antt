@@ -1,6 +1,5 @@
-use Rattle.std.proofs.Common.{◌≡◌, ◌+◌, ◌-◌, ◌<◌, ◌≤◌, min, length, get_or, take, set, sym, refl, ap, ◌∙◌, add-one, arith}
+use Rattle.std.proofs.Common.{get_or, set, sym, ap, ◌∙◌, add-one, arith}
 use lib.Bits.{bit_xor}
-use Rattle.cipher.specs.Blocks.{xored}
 use Rattle.cipher.proofs.XorLaws.{xored_nil, xored_more, xored_all}
 use Rattle.cipher.proofs.xor.xor_into.Goals as goal
 
