@@ -6,7 +6,7 @@ use Rattle.std.proofs.lemmas.List.FromFn.{get_or-map-range_with_len}
 use Rattle.std.proofs.lemmas.Bool.{cases_lt, lt-ltb, le-ltb}
 use Rattle.engine.specs.Bits.{bit, one, word, bit_of, bits, block, byte_of, made}
 use Rattle.engine.proofs.BitLaws.{bit_of_or, bit_suc}
-use Rattle.engine.proofs.Rotations.{bit_shr, bit_mod, bit_past, bit_shl, bit_shl_low}
+use Rattle.engine.proofs.Rotations.{bit_shr, bit_mod, bit_past}
 use Rattle.engine.proofs.Numbers.{word_ext}
 use Rattle.engine.proofs.Filling.{made_ext}
 use Rattle.circuit.specs.Planes.{Bits, one_at, word_bit, block_bit, Holds}

@@ -1,5 +1,5 @@
 -- Parts of a place that holds four blocks.
-use Rattle.std.proofs.Common.{◌≡◌, ℕ, ◌+◌, ◌-◌, ◌*◌, ◌<◌, ◌≤◌, Bool, List, [], ◌∷◌, ◌++◌, length, take, drop, sym, refl, ap, ◌∙◌, ap₂, mul-le-mul_right, arith}
+use Rattle.std.proofs.Common.{◌≡◌, ℕ, ◌+◌, ◌-◌, ◌*◌, ◌<◌, ◌≤◌, List, length, take, drop, sym, ap, ◌∙◌, ap₂, mul-le-mul_right, arith}
 use Rattle.std.proofs.lemmas.List.{length-append, length-take-le, length-drop, drop_at}
 use Rattle.engine.specs.Bits.{bits, block}
 use Rattle.engine.specs.Permutation.{each}

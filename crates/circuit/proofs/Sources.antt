@@ -3,7 +3,7 @@ use Rattle.std.proofs.Common.{◌≡◌, ℕ, ◌+◌, ◌-◌, ◌*◌, ◌/◌
 use Rattle.std.proofs.lemmas.Nat.{mod_below}
 use Rattle.std.proofs.lemmas.Bool.{cases_lt, lt-ltb, le-ltb, eqb-true, false≢true}
 use Rattle.engine.specs.Bits.{bit}
-use Rattle.circuit.specs.Planes.{Bits, word_bit, block_bit, row_bit, InRows, Unzipped}
+use Rattle.circuit.specs.Planes.{Bits, word_bit, InRows, Unzipped}
 use Rattle.circuit.specs.Moves.{Lowered, Raised, Crossed}
 use Rattle.circuit.proofs.Decide.{all_of, each_of}
 use Rattle.circuit.proofs.Fours.{by_four}

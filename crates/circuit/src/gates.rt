@@ -7,7 +7,7 @@ use crate::words::Word;
 
 // At each place the half byte of the four words' bits, the lowest in a, is substituted.
 pub(crate) fn substitute<W: Word>(p: Planes<W>) -> Planes<W>
-    ensures { (i : ℕ) → Substituted (of_block at p i) (of_block at result i) }
+    ensures { (i : ℕ) → Substituted (of_block W.at p i) (of_block W.at result i) }
 {
     let t = p.c.not();
     let a = p.d.xor(t.and(p.b)).xor(p.a);

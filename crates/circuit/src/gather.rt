@@ -11,7 +11,7 @@ use crate::words::Word;
 // The bits of x moved n places down, where the mask has ones.
 fn cut_down<W: Word>(x: W, n: u32, mask: u64) -> W
     requires { n < 64 }
-    ensures { (i : ℕ) → Lowered n mask (at x i) (at result i) }
+    ensures { (i : ℕ) → Lowered n mask (W.at x i) (W.at result i) }
 {
     x.down(n).and(W::all(mask))
 }
@@ -19,7 +19,7 @@ fn cut_down<W: Word>(x: W, n: u32, mask: u64) -> W
 // The bits of x moved n places up, where the mask has ones.
 fn cut_up<W: Word>(x: W, n: u32, mask: u64) -> W
     requires { n < 64 }
-    ensures { (i : ℕ) → Raised n mask (at x i) (at result i) }
+    ensures { (i : ℕ) → Raised n mask (W.at x i) (W.at result i) }
 {
     x.up(n).and(W::all(mask))
 }
@@ -34,7 +34,7 @@ struct Pair<W> {
 // Exchanges the bits of hi where the mask has ones with those of lo n places above.
 fn cross<W: Word>(lo: W, hi: W, n: u32, mask: u64) -> Pair<W>
     requires { n < 64 }
-    ensures { (i : ℕ) → Crossed n mask (at lo i) (at hi i) (at result.lo i) (at result.hi i) }
+    ensures { (i : ℕ) → Crossed n mask (W.at lo i) (W.at hi i) (W.at result.lo i) (W.at result.hi i) }
 {
     let t = lo.down(n).xor(hi).and(W::all(mask));
     Pair {
@@ -45,7 +45,7 @@ fn cross<W: Word>(lo: W, hi: W, n: u32, mask: u64) -> Pair<W>
 
 // The rows of a block in words of 40 bits.
 fn rows40<W: Word>(p: Planes<W>) -> Planes<W>
-    ensures { (i : ℕ) → InRows 40 (of_block at p i) (of_block at result i) }
+    ensures { (i : ℕ) → InRows 40 (of_block W.at p i) (of_block W.at result i) }
 {
     let a = cut_down(p.a, 0, 0xFFFF)
         .or(cut_down(p.b, 8, 0xFFFF0000))
@@ -64,7 +64,7 @@ fn rows40<W: Word>(p: Planes<W>) -> Planes<W>
 
 // The rows of a block in words of 44 bits.
 fn rows44<W: Word>(p: Planes<W>) -> Planes<W>
-    ensures { (i : ℕ) → InRows 44 (of_block at p i) (of_block at result i) }
+    ensures { (i : ℕ) → InRows 44 (of_block W.at p i) (of_block W.at result i) }
 {
     let a = cut_down(p.a, 0, 0xFFFF)
         .or(cut_down(p.b, 4, 0xFFFF0000))
@@ -85,7 +85,7 @@ fn rows44<W: Word>(p: Planes<W>) -> Planes<W>
 // Gathers the bits of four rows. The first four exchanges swap bits 2 and 3 of a bit's place in its row with the row's number,
 // and the others bits 0 and 1.
 fn unzip<W: Word>(r: Planes<W>) -> Planes<W>
-    ensures { (i : ℕ) → Unzipped (of_block at r i) (of_block at result i) }
+    ensures { (i : ℕ) → Unzipped (of_block W.at r i) (of_block W.at result i) }
 {
     let e = cross(r.a, r.b, 4, 0x0F0F0F0F0F0F0F0F);
     let f = cross(r.c, r.d, 4, 0x0F0F0F0F0F0F0F0F);
@@ -106,7 +106,7 @@ fn unzip<W: Word>(r: Planes<W>) -> Planes<W>
 // Gathers the bits of a block in words of WIDTH bits, 40 or 44.
 pub(crate) fn gather<W: Word, const WIDTH: u32>(p: Planes<W>) -> Planes<W>
     requires { Wide WIDTH }
-    ensures { (i : ℕ) → Gathered WIDTH (of_block at p i) (of_block at result i) }
+    ensures { (i : ℕ) → Gathered WIDTH (of_block W.at p i) (of_block W.at result i) }
 {
     if WIDTH == 40 {
         unzip(rows40(p))

@@ -19,7 +19,7 @@ fn step(c: u8) -> u8
 // Adds the counter to the first byte, and its reversal to the last.
 fn add_counter<W: Word, const WIDTH: u32>(p: Planes<W>, c: u8) -> Planes<W>
     requires { (Wide WIDTH) × (c < 128) }
-    ensures { (i : ℕ) (bs : List Bool) → length bs ≡ WIDTH * 4 → Holds WIDTH (of_block at p i) bs → Holds WIDTH (of_block at result i) (count c bs) }
+    ensures { (i : ℕ) (bs : List Bool) → length bs ≡ WIDTH * 4 → Holds WIDTH (of_block W.at p i) bs → Holds WIDTH (of_block W.at result i) (count c bs) }
 {
     let first = W::all(c as u64);
     let last = W::all((c.reverse_bits() as u64) << (WIDTH - 8));
@@ -34,7 +34,7 @@ fn add_counter<W: Word, const WIDTH: u32>(p: Planes<W>, c: u8) -> Planes<W>
 // One round. The words that come out of the circuit, one after another, are the block with its bits moved.
 fn one_round<W: Word, const WIDTH: u32>(p: Planes<W>, c: u8) -> Planes<W>
     requires { (Wide WIDTH) × (c < 128) }
-    ensures { (i : ℕ) (bs : List Bool) → length bs ≡ WIDTH * 4 → Holds WIDTH (of_block at p i) bs → Holds WIDTH (of_block at result i) (round c bs) }
+    ensures { (i : ℕ) (bs : List Bool) → length bs ≡ WIDTH * 4 → Holds WIDTH (of_block W.at p i) bs → Holds WIDTH (of_block W.at result i) (round c bs) }
 {
     let q = add_counter::<W, WIDTH>(p, c);
     let g = gather::<W, WIDTH>(q);
@@ -48,7 +48,7 @@ pub(crate) fn all_rounds<W: Word, const WIDTH: u32>(
     rounds: u8,
 ) -> Planes<W>
     requires { (Wide WIDTH) × (first < 128) }
-    ensures { (i : ℕ) (bs : List Bool) → length bs ≡ WIDTH * 4 → Holds WIDTH (of_block at p i) bs → Holds WIDTH (of_block at result i) (after first rounds bs) }
+    ensures { (i : ℕ) (bs : List Bool) → length bs ≡ WIDTH * 4 → Holds WIDTH (of_block W.at p i) bs → Holds WIDTH (of_block W.at result i) (after first rounds bs) }
 {
     let mut c = first;
     let mut q = p;

@@ -1,4 +1,4 @@
-use Rattle.std.proofs.Common.{◌≡◌, ℕ, ◌+◌, ◌-◌, ◌*◌, ◌/◌, ◌<◌, ◌≤◌, length, take, drop, sym, refl, ap, ◌∙◌, ap₂, arith}
+use Rattle.std.proofs.Common.{◌≡◌, ℕ, ◌+◌, ◌-◌, ◌*◌, ◌/◌, ◌<◌, ◌≤◌, length, take, drop, ap, ◌∙◌, ap₂, arith}
 use Rattle.engine.specs.Bits.{bits}
 use Rattle.engine.specs.Spongent.{after, spongent}
 use Rattle.engine.proofs.Blocks.{done_none, done_more, done_all}
@@ -10,8 +10,8 @@ use Rattle.circuit.proofs.blocks.four_blocks.Goals as goal
 pub loop-i-init : goal.loop-i-init
 loop-i-init g c = done_none (spongent c.args.first c.args.rounds) (g.row.WIDTH / 2) c.args.blocks.now
 
-pub slice-bounds-store-end : goal.slice-bounds-store-end
-slice-bounds-store-end g c = within_four (g.row.WIDTH / 2) c.loop-i.i _ (omega arith) (omega arith)
+pub slice_bounds-store-end : goal.slice_bounds-store-end
+slice_bounds-store-end g c = within_four (g.row.WIDTH / 2) c.loop-i.i _ (omega arith) (omega arith)
 
 pub loop-i-preserved : goal.loop-i-preserved
 loop-i-preserved g c =
@@ -34,7 +34,7 @@ loop-i-preserved g c =
     let long : length part ≡ n = part_length n (i * n) xs within in
     let wide : length (bits part) ≡ m * 4 = bits_length part ∙ ap (λ (k : ℕ). 8 * k) long ∙ omega arith in
     let held : Holds m (of_block one_at c.lane.result 0) (after first rounds (bits part)) =
-    λ j l. ap (λ v. block_bit m v j) c.lane.ensures ∙ c.all-rounds-r.ensures i (bits part) wide (c.load-four-p.ensures i hi) j l in
+    λ j l. ap (λ v. block_bit m v j) c.lane.ensures ∙ c.all_rounds-r.ensures i (bits part) wide (c.load_four-p.ensures i hi) j l in
     done_more f n i xs ys new same within c.loop-i.invariant (part_done first rounds old part new stands (c.store.ensures (after first rounds (bits part)) held))
 
 pub returns : goal.returns

@@ -1,5 +1,5 @@
-use Rattle.std.proofs.Common.{◌≡◌, ℕ, ◌%◌, [], ◌∷◌, get_or, ap, arith}
-use Rattle.circuit.specs.Planes.{of_block, one_at}
+use Rattle.std.proofs.Common.{◌≡◌, ◌%◌, [], ◌∷◌, get_or, ap, arith}
+use Rattle.circuit.specs.Planes.{one_at}
 use Rattle.circuit.proofs.blocks.lane.Goals as goal
 
 pub returns : goal.returns

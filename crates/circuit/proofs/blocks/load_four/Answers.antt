@@ -1,4 +1,4 @@
-use Rattle.std.proofs.Common.{◌≡◌, ℕ, ◌-◌, ◌*◌, ◌/◌, ◌<◌, false, List, get_or, take, drop, ap, ◌∙◌, arith}
+use Rattle.std.proofs.Common.{◌≡◌, ℕ, ◌-◌, ◌*◌, ◌/◌, false, List, get_or, take, drop, ap, ◌∙◌, arith}
 use Rattle.engine.specs.Bits.{bits}
 use Rattle.circuit.specs.Planes.{Bits, of_block, one_at, four_at, block_bit, Holds}
 use Rattle.circuit.proofs.Fours.{by_four}

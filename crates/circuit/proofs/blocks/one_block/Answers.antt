@@ -9,4 +9,4 @@ unfolding spongent
 returns g c =
     let xs = c.args.block.now in
     let long : length (bits xs) ≡ g.row.WIDTH * 4 = bits_length xs ∙ omega arith in
-    c.store.ensures (after c.args.first c.args.rounds (bits xs)) (c.all-rounds-r.ensures 0 (bits xs) long c.load-p.ensures)
+    c.store.ensures (after c.args.first c.args.rounds (bits xs)) (c.all_rounds-r.ensures 0 (bits xs) long c.load-p.ensures)

@@ -1,8 +1,8 @@
-use Rattle.std.proofs.Common.{◌≡◌, ℕ, ◌+◌, ◌*◌, ◌<◌, false, cond, get_or, refl, ap, ◌∙◌, add-zero, lit<, lit≤, rules}
+use Rattle.std.proofs.Common.{◌+◌, ◌*◌, false, cond, refl, ap, ◌∙◌, add-zero, lit<, lit≤, rules}
 use Rattle.std.proofs.lemmas.Bool.{lt-ltb}
 use Rattle.engine.specs.Bits.{bit_of}
 use Rattle.circuit.proofs.Sources.{places}
-use Rattle.circuit.proofs.Octets.{Number, or_number, shl_number, byte_number}
+use Rattle.circuit.proofs.Octets.{or_number, shl_number, byte_number}
 use Rattle.circuit.proofs.bytes.six.Goals as goal
 
 pub returns : goal.returns

@@ -1,4 +1,4 @@
-use Rattle.std.proofs.Common.{◌≡◌, ℕ, ◌*◌, List, [], ◌∷◌, length, ◌∙◌, arith}
+use Rattle.std.proofs.Common.{ℕ, ◌*◌, List, [], ◌∷◌, length, ◌∙◌, arith}
 use Rattle.engine.specs.Bits.{word}
 use Rattle.engine.proofs.Filling.{filled_more, filled_end}
 use Rattle.circuit.specs.Packed.{packed_bit}
@@ -9,7 +9,7 @@ pub loop-k-preserved : goal.loop-k-preserved
 loop-k-preserved g c =
     let p = c.args.p in
     let ws : List ℕ = p.a ∷ p.b ∷ p.c ∷ p.d ∷ 0 ∷ [] in
-    filled_more (λ k. word (packed_bit g.row.WIDTH ws) (8 * k) 8) c.loop-k.xs c.loop-k.k c.byte-at.result (omega arith) c.byte-at.ensures c.loop-k.invariant
+    filled_more (λ k. word (packed_bit g.row.WIDTH ws) (8 * k) 8) c.loop-k.xs c.loop-k.k c.byte_at.result (omega arith) c.byte_at.ensures c.loop-k.invariant
 
 pub returns : goal.returns
 returns g c bs h =

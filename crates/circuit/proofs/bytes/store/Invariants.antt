@@ -1,4 +1,4 @@
-use Rattle.std.proofs.Common.{◌*◌, List, [], ◌∷◌}
+use Rattle.std.proofs.Common.{◌*◌}
 use Rattle.engine.specs.Bits.{word}
 use Rattle.engine.proofs.Filling.{Filled}
 use Rattle.circuit.specs.Packed.{packed_bit}

@@ -1,4 +1,4 @@
-use Rattle.std.proofs.Common.{◌≡◌, ℕ, ◌+◌, ◌-◌, ◌*◌, ◌<◌, ap, ◌∙◌, arith, rules}
+use Rattle.std.proofs.Common.{◌≡◌, ◌+◌, ◌-◌, ◌*◌, ◌<◌, ap, ◌∙◌, arith}
 use Rattle.engine.specs.Bits.{bit_of}
 use Rattle.engine.proofs.Rotations.{bit_shr}
 use Rattle.circuit.proofs.bytes.word_from.Goals as goal

@@ -1,7 +1,7 @@
-use Rattle.std.proofs.Common.{◌≡◌, ℕ, ◌<◌, [], ◌∷◌, refl, ◌∙◌}
-use Rattle.circuit.specs.Planes.{of_block, word_bit, entry}
+use Rattle.std.proofs.Common.{◌≡◌, ℕ, [], ◌∷◌, ◌∙◌}
+use Rattle.circuit.specs.Planes.{word_bit, entry}
 use Rattle.circuit.proofs.Fours.{by_four}
-use Rattle.circuit.proofs.Circuits.{Is, own, and_is, or_is, xor_is, not_is, right}
+use Rattle.circuit.proofs.Circuits.{own, and_is, or_is, xor_is, not_is, right}
 use Rattle.circuit.proofs.gates.substitute.Goals as goal
 
 pub returns : goal.returns

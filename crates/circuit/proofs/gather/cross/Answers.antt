@@ -1,4 +1,4 @@
-use Rattle.std.proofs.Common.{◌≡◌, ℕ, ◌<◌, ◌&&◌, ap, ◌∙◌, ap₂}
+use Rattle.std.proofs.Common.{ℕ, ◌<◌, ◌&&◌, ap, ◌∙◌, ap₂}
 use Rattle.engine.specs.Bits.{differs}
 use Rattle.circuit.proofs.Swaps.{cross_lo, cross_hi}
 use Rattle.circuit.proofs.gather.cross.Goals as goal

@@ -1,4 +1,4 @@
-use Rattle.std.proofs.Common.{◌≡◌, ◌&&◌, ◌∙◌, ap₂}
+use Rattle.std.proofs.Common.{◌&&◌, ◌∙◌, ap₂}
 use Rattle.circuit.proofs.gather.cut_down.Goals as goal
 
 pub returns : goal.returns

@@ -1,6 +1,6 @@
 use Rattle.std.proofs.Common.{refl}
 use Rattle.circuit.specs.Planes.{of_block}
-use Rattle.circuit.proofs.Sources.{From, base, lo_from, hi_from, unzipped}
+use Rattle.circuit.proofs.Sources.{base, lo_from, hi_from, unzipped}
 use Rattle.circuit.proofs.gather.unzip.Goals as goal
 
 pub returns : goal.returns

@@ -1,4 +1,4 @@
-use Rattle.std.proofs.Common.{◌≡◌, ℕ, ◌-◌, ◌*◌, ◌%◌, ◌^◌, refl, ap, ◌∙◌, arith}
+use Rattle.std.proofs.Common.{◌-◌, ◌*◌, ◌%◌, ◌^◌, ap, ◌∙◌, arith}
 use Rattle.engine.specs.Bits.{bit, differs}
 use Rattle.circuit.proofs.Counters.{counter_holds}
 use Rattle.circuit.proofs.rounds.add_counter.Goals as goal
@@ -10,5 +10,5 @@ returns g c i bs len h =
     let p = c.args.p in
     counter_holds m c.args.c (omega arith) (omega arith) (omega arith) (at p.a i) (at p.b i) (at p.c i) (at p.d i) (at c.xor.result i) (at c.xor-2.result i) bs len
     (λ k l. c.xor.ensures i k l ∙ ap (differs (at p.a i k)) (c.all-first.ensures i k l))
-    (λ k l. c.xor-2.ensures i k l ∙ ap (differs (at p.d i k)) (c.all-last.ensures i k l ∙ ap (λ r. bit ((r * 2 ^ (m - 8)) % 2 ^ 64) k) c.reverse-bits.ensures))
+    (λ k l. c.xor-2.ensures i k l ∙ ap (differs (at p.d i k)) (c.all-last.ensures i k l ∙ ap (λ r. bit ((r * 2 ^ (m - 8)) % 2 ^ 64) k) c.reverse_bits.ensures))
     h

@@ -14,7 +14,7 @@ loop-n-preserved g c =
     let first = c.args.first in (
       (λ i bs len h j l.
           let s = after first n bs in
-          c.one-round-q.ensures i s (after_length first n bs ∙ len) (c.loop-n.invariant.0 i bs len h) j l
+          c.one_round-q.ensures i s (after_length first n bs ∙ len) (c.loop-n.invariant.0 i bs len h) j l
           ∙ ap (λ t. get_or t j false) (ap (λ e. round e s) c.loop-n.invariant.1 ∙ ap (λ n. after first n bs) (sym (add-one n)))),
       c.step-c.ensures.0 ∙ ap next c.loop-n.invariant.1 ∙ ap (counter first) (sym (add-one n)),
       c.step-c.ensures.1,

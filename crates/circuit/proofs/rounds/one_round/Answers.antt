@@ -1,4 +1,4 @@
-use Rattle.std.proofs.Common.{◌≡◌, ◌∙◌, arith}
+use Rattle.std.proofs.Common.{◌∙◌, arith}
 use Rattle.engine.specs.Spongent.{round, count}
 use Rattle.circuit.specs.Planes.{of_block}
 use Rattle.circuit.proofs.Layers.{count_length, planes_hold}
@@ -8,5 +8,5 @@ pub returns : goal.returns
 unfolding round
 returns g c i bs len h =
     let at = g.W.Word.at in
-    planes_hold g.row.WIDTH (of_block at c.add-counter-q.result i) (of_block at c.gather-g.result i) (of_block at c.substitute.result i) (count c.args.c bs)
-    (omega arith) (count_length c.args.c bs ∙ len) (c.add-counter-q.ensures i bs len h) (c.gather-g.ensures i) (c.substitute.ensures i)
+    planes_hold g.row.WIDTH (of_block at c.add_counter-q.result i) (of_block at c.gather-g.result i) (of_block at c.substitute.result i) (count c.args.c bs)
+    (omega arith) (count_length c.args.c bs ∙ len) (c.add_counter-q.ensures i bs len h) (c.gather-g.ensures i) (c.substitute.ensures i)

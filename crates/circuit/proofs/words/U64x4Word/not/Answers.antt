@@ -1,4 +1,4 @@
-use Rattle.std.proofs.Common.{◌≡◌, ◌-◌, ◌%◌, ◌^◌, ◌<◌, length, get_or, ap, ◌∙◌, rules}
+use Rattle.std.proofs.Common.{◌-◌, ◌%◌, ◌^◌, ◌<◌, get_or, ap, ◌∙◌, rules}
 use Rattle.engine.specs.Bits.{bit}
 use Rattle.engine.proofs.BitLaws.{bit_not}
 use Rattle.circuit.proofs.Shifts.{map_lane}
