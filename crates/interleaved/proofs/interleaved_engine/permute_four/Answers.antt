@@ -5,5 +5,5 @@ use Rattle.interleaved.proofs.interleaved_engine.permute_four.Goals as goal
 
 pub returns : goal.returns
 returns c =
-    c.store-four.ensures ∙ ap (stored 100) (c.all-rounds.ensures ∙ ap (w_after 18) c.load-four.ensures)
+    c.store_four.ensures ∙ ap (stored 100) (c.all_rounds.ensures ∙ ap (w_after 18) c.load_four.ensures)
     ∙ blocks_are 4 c.args.blocks.now (lit≤ tt) c.requires

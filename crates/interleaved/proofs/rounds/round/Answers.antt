@@ -7,5 +7,5 @@ pub returns : goal.returns
 unfolding w_round
 returns c =
     ap₂ (λ (ws : List ℕ) (k : ℕ). set ws 0 (bit_xor (get_or ws 0 0) k))
-    (c.chi-t.ensures ∙ ap (λ (ws : List ℕ). words (w_chi ws)) (c.rho-pi.ensures ∙ ap (λ (ws : List ℕ). words (w_pi (words (w_rho ws)))) c.theta.ensures))
+    (c.chi-t.ensures ∙ ap (λ (ws : List ℕ). words (w_chi ws)) (c.rho_pi.ensures ∙ ap (λ (ws : List ℕ). words (w_pi (words (w_rho ws)))) c.theta.ensures))
     c.constant.ensures

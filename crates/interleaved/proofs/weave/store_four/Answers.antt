@@ -19,7 +19,7 @@ loop-l-preserved c =
     let col : i ≡ p / 25 = omega arith in
     lifted_is x r i hi c.unweave-x.ensures ∙ ap₂ (λ m n. lifted (get_or ws m 0) n) row col in
     let low : r % 256 ≡ r / 1 % 256 = omega arith in
-    let high : r / 16777216 ≡ r / 16777216 % 256 = omega (arith, c.unweave-x.type-inv) in
+    let high : r / 16777216 ≡ r / 16777216 % 256 = omega (arith, c.unweave-x.type_inv) in
     columns_more (stored_at ws) l c.loop-l.blocks _ _ _ _ (search rules) (omega arith)
     (low ∙ at 0 l (lit< tt) (sym (zero-add l))) (at 1 (25 + l) (lit< tt) refl) (at 2 (50 + l) (lit< tt) refl) (high ∙ at 3 (75 + l) (lit< tt) refl)
     c.loop-l.invariant
