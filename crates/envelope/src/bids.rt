@@ -34,8 +34,8 @@ pub fn seal_bid<E: Engine>(
     note: &[u8],
     place: &mut [u8],
 ) -> Result<(), EnvelopeFault>
-    ensures answer { result ≡ bid_answer (kind engine.now) key.now amount note.now place.old }
-    ensures place { place.new ≡ left result (bid (kind engine.now) key.now (bytes_of_terms head.terms) head.lot head.bidder head.sequence amount note.now) place.old }
+    ensures answer { result ≡ bid_answer (E.kind engine.now) key.now amount note.now place.old }
+    ensures place { place.new ≡ left result (bid (E.kind engine.now) key.now (bytes_of_terms head.terms) head.lot head.bidder head.sequence amount note.now) place.old }
 {
     let Head {
         lot,
@@ -96,9 +96,9 @@ fn put_envelope<E: Engine>(
     requires nonce { length nonce.now ≡ 12 }
     requires terms { length terms.now ≤ 64 }
     requires letter { length letter.now ≡ 64 }
-    requires place { length place.old ≡ envelope_size (kind engine.now) }
+    requires place { length place.old ≡ envelope_size (E.kind engine.now) }
     ensures granted { result ≡ Ok tt }
-    ensures place { place.new ≡ enveloped (kind engine.now) key.now terms.now nonce.now letter.now }
+    ensures place { place.new ≡ enveloped (E.kind engine.now) key.now terms.now nonce.now letter.now }
 {
     let t = tag_bytes(engine.variant());
     let mut sealed = [0u8; LETTER_BYTES];

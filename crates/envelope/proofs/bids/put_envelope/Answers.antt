@@ -10,15 +10,15 @@ returns g c =
     let nonce = c.args.nonce.now in
     let terms = c.args.terms.now in
     let letter = c.args.letter.now in
-    let t : c.tag-bytes-t.result ≡ tag_size v = c.tag-bytes-t.ensures ∙ ap tag_size c.variant.ensures.answer in
+    let t : c.tag_bytes-t.result ≡ tag_size v = c.tag_bytes-t.ensures ∙ ap tag_size c.variant.ensures.answer in
     let out : List ℕ = replicate 64 0 in
-    let place : List ℕ = take (c.tag-bytes-t.result - 0) (replicate 16 0) in
+    let place : List ℕ = take (c.tag_bytes-t.result - 0) (replicate 16 0) in
     let sealed : List ℕ = sealed_text v key nonce letter in
-    let lp : length place ≡ tag_size v = tag_place_length v c.tag-bytes-t.result t in
+    let lp : length place ≡ tag_size v = tag_place_length v c.tag_bytes-t.result t in
     record {
       granted = refl;
       place =
-          enveloped_parts v key terms nonce letter c.seal.new.out c.seal.new.tag _ c.put-parts.ensures
+          enveloped_parts v key terms nonce letter c.seal.new.out c.seal.new.tag _ c.put_parts.ensures
           (sealing_leaves v key nonce terms letter out place c.seal.new.out sealed out c.seal.result c.seal.ensures.answer c.seal.ensures.out
           c.requires.key c.requires.nonce c.requires.terms c.requires.letter refl lp)
           (sealing_leaves v key nonce terms letter out place c.seal.new.tag (tag v key nonce terms sealed) place c.seal.result c.seal.ensures.answer c.seal.ensures.tag

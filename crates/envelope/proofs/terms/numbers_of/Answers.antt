@@ -6,5 +6,5 @@ use Rattle.envelope.proofs.terms.numbers_of.Goals as goal
 pub returns : goal.returns
 returns c =
     let xs = c.args.filled.now in
-    held_back xs _ c.requires (All-from_get_or (λ d. d < 256) xs 0 (λ i h. (c.type-inv.filled i).fits))
-    c.number-of.ensures c.number-of-2.ensures c.number-of-3.ensures c.number-of-4.ensures
+    held_back xs _ c.requires (All-from_get_or (λ d. d < 256) xs 0 (λ i h. (c.type_inv.filled i).fits))
+    c.number_of.ensures c.number_of-2.ensures c.number_of-3.ensures c.number_of-4.ensures

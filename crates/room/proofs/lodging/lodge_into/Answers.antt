@@ -17,14 +17,14 @@ returns-in-None g c =
 pub returns-then-sequence-last : goal.returns-then-sequence-last
 returns-then-sequence-last g c =
     let last = (get_or c.args.slots.now c.in-Some.i no_slot).sequence in
-    let small : last < 2 ^ 32 = omega (arith, c.sequence-last.ensures, c.sequence-last.type-inv) in
+    let small : last < 2 ^ 32 = omega (arith, c.sequence-last.ensures, c.sequence-last.type_inv) in
     let low : c.in-ok-bidder.sequence ≤ last = omega (arith, c.sequence-last.ensures, c.if-sequence-last.true) in
     way_stale _ _ _ _ _ _ _ (head_read _ _ _ _ _ _ c.variant.ensures.answer c.in-ok-bidder.ensures) c.in-Some.i c.in-Some.ensures small low
 
 pub returns-in-err-check-tag : goal.returns-in-err-check-tag
 returns-in-err-check-tag g c =
     let last = (get_or c.args.slots.now c.in-Some.i no_slot).sequence in
-    let small : last < 2 ^ 32 = omega (arith, c.sequence-last.ensures, c.sequence-last.type-inv) in
+    let small : last < 2 ^ 32 = omega (arith, c.sequence-last.ensures, c.sequence-last.type_inv) in
     let up : last < c.in-ok-bidder.sequence = omega (arith, c.sequence-last.ensures, c.if-sequence-last.false) in
     let p = err_from_is_err_and c.from-residual-in-err-check-tag.result c.from-residual-in-err-check-tag.ensures.1 in
     rw (p.1, p.2)
@@ -33,7 +33,7 @@ returns-in-err-check-tag g c =
 pub returns : goal.returns
 returns g c =
     let last = (get_or c.args.slots.now c.in-Some.i no_slot).sequence in
-    let small : last < 2 ^ 32 = omega (arith, c.sequence-last.ensures, c.sequence-last.type-inv) in
+    let small : last < 2 ^ 32 = omega (arith, c.sequence-last.ensures, c.sequence-last.type_inv) in
     let up : last < c.in-ok-bidder.sequence = omega (arith, c.sequence-last.ensures, c.if-sequence-last.false) in
     way_granted _ _ _ _ _ _ _ (head_read _ _ _ _ _ _ c.variant.ensures.answer c.in-ok-bidder.ensures) c.in-Some.i c.in-Some.ensures small up
-    (All-from_get_or (λ b. b < 256) c.args.envelope.now 0 (λ i l. (c.type-inv.envelope i).fits)) c.in-ok-check-tag.ensures c.filled.result c.filled.ensures
+    (All-from_get_or (λ b. b < 256) c.args.envelope.now 0 (λ i l. (c.type_inv.envelope i).fits)) c.in-ok-check-tag.ensures c.filled.result c.filled.ensures

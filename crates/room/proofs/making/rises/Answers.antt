@@ -22,10 +22,10 @@ loop-i-preserved c =
     let xs = c.args.register.now in
     let i = c.loop-i.i in
     let high : c.loop-i.least ≤ (get_or xs i nobody).bidder = omega (arith, c.bidder-bidder.ensures, c.if-bidder-least.false) in
-    let small : Fits (get_or xs i nobody) = omega (arith, c.bidder-bidder.ensures, c.bidder-bidder.type-inv) in (
+    let small : Fits (get_or xs i nobody) = omega (arith, c.bidder-bidder.ensures, c.bidder-bidder.type_inv) in (
       c.loop-i.invariant.0 ∙ rises_yes c.loop-i.least xs i c.loop-i-test.true high ∙ ap (λ n. rises_from (n + 1) (drop (i + 1) xs)) (sym c.bidder-bidder.ensures),
       fits_more xs i c.loop-i-test.true c.loop-i.invariant.1 small,
-      omega (arith, c.bidder-bidder.type-inv),
+      omega (arith, c.bidder-bidder.type_inv),
     )
 
 pub returns : goal.returns

@@ -5,4 +5,4 @@ use Rattle.envelope.proofs.terms.Terms.new.Goals as goal
 pub returns : goal.returns
 returns c =
     let xs = c.args.bytes.now in
-    c.numbers-of.ensures ∙ ap (take (length xs)) c.put-first.ensures ∙ take_at xs _ (length xs) refl
+    c.numbers_of.ensures ∙ ap (take (length xs)) c.put_first.ensures ∙ take_at xs _ (length xs) refl

@@ -8,7 +8,7 @@ pub returns : goal.returns
 returns c =
     let t = c.args.self in
     held_written t c.args.filled.now _ _ _ _ c.requires
-    (c.put-number.ensures ∙ ap (λ (n : ℕ). bytes_of n t.a) (search (rules, places)))
-    (c.put-number-2.ensures ∙ ap (λ (n : ℕ). bytes_of n t.b) (search (rules, places)))
-    (c.put-number-3.ensures ∙ ap (λ (n : ℕ). bytes_of n t.c) (search (rules, places)))
-    (c.put-number-4.ensures ∙ ap (λ (n : ℕ). bytes_of n t.d) (search (rules, places)))
+    (c.put_number.ensures ∙ ap (λ (n : ℕ). bytes_of n t.a) (search (rules, places)))
+    (c.put_number-2.ensures ∙ ap (λ (n : ℕ). bytes_of n t.b) (search (rules, places)))
+    (c.put_number-3.ensures ∙ ap (λ (n : ℕ). bytes_of n t.c) (search (rules, places)))
+    (c.put_number-4.ensures ∙ ap (λ (n : ℕ). bytes_of n t.d) (search (rules, places)))
