@@ -21,7 +21,7 @@ use envelope::{envelope_bytes, parts_of};
 impl RoomState {
     // Lodges an envelope, and answers its sequence.
     pub(crate) fn lodge<E: Engine>(&mut self, engine: &E, envelope: &[u8]) -> Result<u32, RoomFault>
-        ensures { Met (kind engine.now) self.old (Lodging envelope.now) result self.new }
+        ensures { Met (E.kind engine.now) self.old (Lodging envelope.now) result self.new }
     {
         self.admits(Op::Lodge)?;
         let lot = self.lot;
@@ -70,7 +70,7 @@ fn lodge_first<E: Engine>(
 ) -> Result<u32, RoomFault>
     requires terms { length terms.now ≤ 64 }
     requires count { count ≤ length slots.old }
-    ensures { Lodged (kind engine.now) lot terms.now (take count slots.old) envelope.now result (take count slots.new) }
+    ensures { Lodged (E.kind engine.now) lot terms.now (take count slots.old) envelope.now result (take count slots.new) }
 {
     lodge_into(engine, lot, terms, &mut slots[..count], envelope)
 }
@@ -84,7 +84,7 @@ fn lodge_into<E: Engine>(
     envelope: &[u8],
 ) -> Result<u32, RoomFault>
     requires terms { length terms.now ≤ 64 }
-    ensures { Lodged (kind engine.now) lot terms.now slots.old envelope.now result slots.new }
+    ensures { Lodged (E.kind engine.now) lot terms.now slots.old envelope.now result slots.new }
 {
     let (bidder, sequence) = read_head(engine.variant(), lot, envelope)?;
     let i = match place_of(slots, bidder) {
@@ -130,8 +130,8 @@ fn check_tag<E: Engine>(
 ) -> Result<(), RoomFault>
     requires key { length key.now ≡ 16 }
     requires terms { length terms.now ≤ 64 }
-    requires envelope { length envelope.now ≡ envelope_size (kind engine.now) }
-    ensures { result ≡ decided ((bytes_eq (tag_part envelope.now) (right_tag (kind engine.now) key.now terms.now envelope.now), RoomWrongTag bidder sequence CipherWrongTag) ∷ []) tt }
+    requires envelope { length envelope.now ≡ envelope_size (E.kind engine.now) }
+    ensures { result ≡ decided ((bytes_eq (tag_part envelope.now) (right_tag (E.kind engine.now) key.now terms.now envelope.now), RoomWrongTag bidder sequence CipherWrongTag) ∷ []) tt }
 {
     match check(
         engine,

@@ -21,7 +21,7 @@ pub(crate) fn amount_of<E: Engine>(
 ) -> u64
     requires terms { length terms.now ≤ 64 }
     requires work { length work.old ≡ 64 }
-    ensures { result ≡ amount_held (kind engine.now) slot.now.key terms.now (envelope_in (kind engine.now) lot slot.now) }
+    ensures { result ≡ amount_held (E.kind engine.now) slot.now.key terms.now (envelope_in (E.kind engine.now) lot slot.now) }
 {
     if slot.sequence == 0 {
         return 0;
@@ -53,9 +53,9 @@ fn open_amount<E: Engine>(
     requires nonce { length nonce.now ≡ 12 }
     requires terms { length terms.now ≤ 64 }
     requires sealed { length sealed.now ≡ 64 }
-    requires tag { length tag.now ≡ tag_size (kind engine.now) }
+    requires tag { length tag.now ≡ tag_size (E.kind engine.now) }
     requires work { length work.old ≡ 64 }
-    ensures { result ≡ (if bytes_eq tag.now (tag_of (kind engine.now) key.now nonce.now terms.now sealed.now) then amount_offered (opened_text (kind engine.now) key.now nonce.now sealed.now) else 0) }
+    ensures { result ≡ (if bytes_eq tag.now (tag_of (E.kind engine.now) key.now nonce.now terms.now sealed.now) then amount_offered (opened_text (E.kind engine.now) key.now nonce.now sealed.now) else 0) }
 {
     match check(engine, key, nonce, terms, sealed, tag) {
         Err(_) => 0,

@@ -41,9 +41,9 @@ impl RoomState {
         requires sheet { 64 ≤ length sheet.old }
         requires page { 2258 ≤ length page.old }
         requires work { length work.old ≡ 64 }
-        ensures answer { result ≡ length (page_of_room (contents (kind engine.now) self.now)) }
-        ensures sheet { sheet.new ≡ written_over (sheet_of (contents (kind engine.now) self.now)) sheet.old }
-        ensures page { page.new ≡ written_over (page_of_room (contents (kind engine.now) self.now)) page.old }
+        ensures answer { result ≡ length (page_of_room (contents (E.kind engine.now) self.now)) }
+        ensures sheet { sheet.new ≡ written_over (sheet_of (contents (E.kind engine.now) self.now)) sheet.old }
+        ensures page { page.new ≡ written_over (page_of_room (contents (E.kind engine.now) self.now)) page.old }
     {
         let terms = &self.terms[..self.terms_bytes];
         let slots = &self.slots[..self.count];
@@ -64,8 +64,8 @@ fn fill_sheet<E: Engine>(
     requires terms { length terms.now ≤ 64 }
     requires sheet { length slots.now ≤ length sheet.old }
     requires work { length work.old ≡ 64 }
-    ensures count { result ≡ length (sheet_in (kind engine.now) lot terms.now slots.now) }
-    ensures sheet { sheet.new ≡ written_over (sheet_in (kind engine.now) lot terms.now slots.now) sheet.old }
+    ensures count { result ≡ length (sheet_in (E.kind engine.now) lot terms.now slots.now) }
+    ensures sheet { sheet.new ≡ written_over (sheet_in (E.kind engine.now) lot terms.now slots.now) sheet.old }
     ensures fit { (lot < 2 ^ 32) × All (λ x. x.bidder < 2 ^ 32) slots.now }
 {
     let mut n = 0;

@@ -37,7 +37,7 @@ impl<'r, E: Engine + Drop> Room<'r, E> {
 
     // Lodges an envelope, and answers its sequence.
     pub fn lodge(&mut self, envelope: &[u8]) -> Result<u32, RoomFault>
-        ensures meets { Met (kind self.old.engine) self.old.inner.now (Lodging envelope.now) result self.new.inner.now }
+        ensures meets { Met (E.kind self.old.engine) self.old.inner.now (Lodging envelope.now) result self.new.inner.now }
         ensures engine { self.new.engine ≡ self.old.engine }
         ensures place { self.new.inner.ghost_name ≡ self.old.inner.ghost_name }
     {
@@ -46,14 +46,14 @@ impl<'r, E: Engine + Drop> Room<'r, E> {
 
     // The last accepted sequence of a bidder, 0 at first.
     pub fn ask(&self, bidder: u32) -> Result<u32, RoomFault>
-        ensures meets { Met (kind self.now.engine) self.now.inner.now (Asking bidder) result self.now.inner.now }
+        ensures meets { Met (E.kind self.now.engine) self.now.inner.now (Asking bidder) result self.now.inner.now }
     {
         self.inner.ask(bidder)
     }
 
     // Ends lodging.
     pub fn close(&mut self) -> Result<(), RoomFault>
-        ensures meets { Met (kind self.old.engine) self.old.inner.now Closing (without_number result) self.new.inner.now }
+        ensures meets { Met (E.kind self.old.engine) self.old.inner.now Closing (without_number result) self.new.inner.now }
         ensures engine { self.new.engine ≡ self.old.engine }
         ensures place { self.new.inner.ghost_name ≡ self.old.inner.ghost_name }
     {
@@ -68,7 +68,7 @@ impl<'r, E: Engine + Drop> Room<'r, E> {
         page: &mut [u8],
         work: &mut [u8],
     ) -> Result<usize, RoomFault>
-        ensures opened { Opened (kind self.old.engine) self.old.inner.now (record { sheet = sheet.entry.now; page = page.old; work = work.old }) result (record { sheet = sheet.exit.now; page = page.new; work = work.new }) self.new.inner.now }
+        ensures opened { Opened (E.kind self.old.engine) self.old.inner.now (record { sheet = sheet.old; page = page.old; work = work.old }) result (record { sheet = sheet.new; page = page.new; work = work.new }) self.new.inner.now }
         ensures engine { self.new.engine ≡ self.old.engine }
         ensures place { self.new.inner.ghost_name ≡ self.old.inner.ghost_name }
     {

@@ -4,4 +4,4 @@ use Rattle.room.proofs.CodeLodging.{lodged_front}
 use Rattle.room.proofs.lodging.lodge_first.Goals as goal
 
 pub returns : goal.returns
-returns g c = lodged_front c.lodge-into.new.slots _ c.args.count (c.lodge-into.auto.slots ∙ length-take-le _ _ c.requires.count) c.lodge-into.ensures
+returns g c = lodged_front c.lodge_into.new.slots _ c.args.count (c.lodge_into.auto.slots ∙ length-take-le _ _ c.requires.count) c.lodge_into.ensures

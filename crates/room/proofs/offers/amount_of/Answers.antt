@@ -8,6 +8,6 @@ returns g c =
     let v = g.E.Engine.kind c.args.engine.now in
     let x = c.args.slot.now in
     let long : length x.letter ≡ 64 = search rules in
-    let t : c.tag-bytes-t.result ≡ tag_size v = c.tag-bytes-t.ensures ∙ ap tag_size c.variant.ensures.answer in
-    let n : c.tag-bytes-t.result - 0 ≡ tag_size v = omega arith in
-    amount_kept v c.args.lot c.args.terms.now x long _ _ _ c.if-slot-eq0.false c.head-of-nonce.ensures (ap (λ k. take k x.tag) n) c.open-amount.ensures
+    let t : c.tag_bytes-t.result ≡ tag_size v = c.tag_bytes-t.ensures ∙ ap tag_size c.variant.ensures.answer in
+    let n : c.tag_bytes-t.result - 0 ≡ tag_size v = omega arith in
+    amount_kept v c.args.lot c.args.terms.now x long _ _ _ c.if-slot-eq0.false c.head_of-nonce.ensures (ap (λ k. take k x.tag) n) c.open_amount.ensures

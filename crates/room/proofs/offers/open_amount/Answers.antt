@@ -8,4 +8,4 @@ returns-in-Ok-open g c =
     opened_amount (g.E.Engine.kind c.args.engine.now) c.args.key.now c.args.nonce.now c.args.terms.now c.args.sealed.now c.args.tag.now
     (record { key_length = c.requires.key; nonce_length = c.requires.nonce; associated_length = omega (arith, c.requires.terms); text_length = omega (arith, c.requires.sealed); tag_length = c.requires.tag }) _ c.in-Ok.ensures
     (All-from_get_or (λ b. b < 256) c.args.key.now 0 (λ i l. (c.type_inv.key i).fits)) (All-from_get_or (λ b. b < 256) c.args.nonce.now 0 (λ i l. (c.type_inv.nonce i).fits))
-    _ _ c.in-Ok-open.ensures.out c.amount-in.ensures
+    _ _ c.in-Ok-open.ensures.out c.amount_in.ensures

@@ -17,8 +17,8 @@ loop-i-preserved g c =
     let i = c.loop-i.i in
     let small : Fits (get_or xs i no_slot) = omega (arith, c.bidder-bidder.ensures, c.bidder-bidder.type_inv) in
     let room : c.loop-i.n < length c.args.sheet.now = omega (arith, c.loop-i.invariant.3, c.loop-i-test.true, c.requires.sheet) in
-    let p = sheet_step v c.args.lot c.args.terms.now xs i c.loop-i.n _ _ c.loop-i.sheet c.args.sheet.now c.loop-i-test.true c.bidder-bidder.ensures c.amount-of-amount.ensures c.loop-i.invariant.0 c.loop-i.invariant.1 room c.loop-i.invariant.3 in
-    (c.put-entry-n.ensures.end ∙ p.0, c.put-entry-n.ensures.sheet ∙ p.1, fits_more xs i c.loop-i-test.true c.loop-i.invariant.2 small, omega (arith, c.put-entry-n.ensures.end, p.2))
+    let p = sheet_step v c.args.lot c.args.terms.now xs i c.loop-i.n _ _ c.loop-i.sheet c.args.sheet.now c.loop-i-test.true c.bidder-bidder.ensures c.amount_of-amount.ensures c.loop-i.invariant.0 c.loop-i.invariant.1 room c.loop-i.invariant.3 in
+    (c.put_entry-n.ensures.end ∙ p.0, c.put_entry-n.ensures.sheet ∙ p.1, fits_more xs i c.loop-i-test.true c.loop-i.invariant.2 small, omega (arith, c.put_entry-n.ensures.end, p.2))
 
 pub returns : goal.returns
 returns g c =

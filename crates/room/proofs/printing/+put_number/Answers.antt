@@ -10,8 +10,8 @@ returns-then-n-lt10 t c =
     let e = one_digit c.args.n c.if-n-lt10.true in
     record { end = omega arith; page = number_one c.args.page.now c.args.at c.args.n c.if-n-lt10.true c.requires }
 
-pub put-number-last-requires : goal.put-number-last-requires
-put-number-last-requires t c =
+pub put_number-last-requires : goal.put_number-last-requires
+put_number-last-requires t c =
     let f : c.args.n < 2 ^ 64 = omega arith in
     let e = more_digits c.args.n c.if-n-lt10.false f in (search rules, omega arith)
 
@@ -19,10 +19,10 @@ pub bounds-page-last : goal.bounds-page-last
 bounds-page-last t c =
     let f : c.args.n < 2 ^ 64 = omega arith in
     let e = more_digits c.args.n c.if-n-lt10.false f in
-    let k = c.put-number-last.auto.page in omega arith
+    let k = c.put_number-last.auto.page in omega arith
 
-pub overflow-add-result-2 : goal.overflow-add-result-2
-overflow-add-result-2 t c =
+pub overflow_add-result-2 : goal.overflow_add-result-2
+overflow_add-result-2 t c =
     let f : c.args.n < 2 ^ 64 = omega arith in
     let e = more_digits c.args.n c.if-n-lt10.false f in search rules
 
@@ -32,5 +32,5 @@ returns t c =
     let e = more_digits c.args.n c.if-n-lt10.false f in
     record {
       end = omega arith;
-      page = number_last c.args.page.now c.put-number-last.new.page c.args.at c.args.n c.put-number-last.result c.if-n-lt10.false f c.requires c.put-number-last.ensures.end c.put-number-last.ensures.page c.put-number-last.auto.page;
+      page = number_last c.args.page.now c.put_number-last.new.page c.args.at c.args.n c.put_number-last.result c.if-n-lt10.false f c.requires c.put_number-last.ensures.end c.put_number-last.ensures.page c.put_number-last.auto.page;
     }

@@ -6,8 +6,8 @@ use Rattle.room.specs.Places.{written_at}
 use Rattle.room.proofs.CodePages.{written_none, written_then, lines_more, line_fits, none_listed}
 use Rattle.room.proofs.printing.put_lines.Goals as goal
 
-pub put-line-at-requires : goal.put-line-at-requires
-put-line-at-requires c =
+pub put_line-at-requires : goal.put_line-at-requires
+put_line-at-requires c =
     line_fits c.args.lot c.args.sheet.now c.loop-i.i c.args.start c.loop-i.at (length c.loop-i.page) none_listed (omega arith) c.loop-i.invariant.0 (omega arith)
 
 pub loop-i-preserved : goal.loop-i-preserved
@@ -19,7 +19,7 @@ loop-i-preserved c =
     let n = length-append ps x in
     let k = ap length m in (
       omega arith,
-      written_then c.args.page.now c.loop-i.page _ c.args.start c.loop-i.at ps x (omega arith) c.loop-i.invariant.1 c.loop-i.invariant.0 c.put-line-at.ensures.page
+      written_then c.args.page.now c.loop-i.page _ c.args.start c.loop-i.at ps x (omega arith) c.loop-i.invariant.1 c.loop-i.invariant.0 c.put_line-at.ensures.page
           ∙ ap (written_at c.args.page.now c.args.start) (sym m),
     )
 
