@@ -3,8 +3,8 @@ use Rattle.file.specs.Hexadecimal.{is_hex_digit}
 use Rattle.file.proofs.Pairs.{hex_more, hex_other, hex_end}
 use Rattle.file.proofs.hexadecimal.are_digits.Goals as goal
 
-pub returns-then-not-is-digit : goal.returns-then-not-is-digit
-returns-then-not-is-digit c =
+pub returns-then-not-is_digit : goal.returns-then-not-is_digit
+returns-then-not-is_digit c =
     let e : is_hex_digit (get_or c.args.digits.now c.loop-i.i 0) ≡ false = cc in
     sym (hex_other c.args.digits.now c.loop-i.i (omega arith) e) ∙ c.loop-i.invariant
 

@@ -11,4 +11,4 @@ returns-in-Bidder c = (through_bidder _ _ c.args.said _ _ _ c.in-Bidder.is, refl
 
 pub returns-in-Envelope : goal.returns-in-Envelope
 returns-in-Envelope c =
-    IfOk-weaker c.lodge-line.result _ _ (λ x h. (through_envelope _ _ _ _ c.args.said _ _ c.in-Envelope.is h.0 h.1, h.2, h.3)) c.lodge-line.ensures
+    IfOk-weaker c.lodge_line.result _ _ (λ x h. (through_envelope _ _ _ _ c.args.said _ _ c.in-Envelope.is h.0 h.1, h.2, h.3)) c.lodge_line.ensures

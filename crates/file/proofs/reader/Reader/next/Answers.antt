@@ -16,8 +16,8 @@ returns-in-Envelopes c =
     let p = stays_ended (left_of c.args.self.now) (left_of c.loop-self.self) e c.loop-self.invariant.0 in
     record { gives = p.0; leaves = p.1; goes_on = tt }
 
-pub returns-in-default : goal.returns-in-default
-returns-in-default c =
-    let e = sym c.loop-self.invariant.0 ∙ left_end c.loop-self.self c.loop-self.invariant.2 (omega arith) ∙ not_the_end c.loop-self.self.section c.loop-self.self.line c.in-default.not-Envelopes in
+pub returns-in_default : goal.returns-in_default
+returns-in_default c =
+    let e = sym c.loop-self.invariant.0 ∙ left_end c.loop-self.self c.loop-self.invariant.2 (omega arith) ∙ not_the_end c.loop-self.self.section c.loop-self.self.line c.in_default.not-Envelopes in
     let p = stays_refused (left_of c.args.self.now) (left_of c.loop-self.self) _ e c.loop-self.invariant.0 in
     record { gives = p.0; leaves = p.1; goes_on = tt }
