@@ -48,12 +48,12 @@ fn entries_come_by_rising_number(rt: HostRuntime) {
     );
     assert_eq!(rt;
         list.entries(),
-        &[
+        [
             instrument(10, 1),
             instrument(20, 2),
             instrument(25, 4),
             instrument(30, 3),
-        ]
+        ].as_slice()
     );
 }
 
@@ -75,7 +75,7 @@ fn offers_come_by_falling_amount(rt: HostRuntime) {
     );
     assert_eq!(rt;
         list.entries(),
-        &[offer(900, 2), offer(700, 3), offer(500, 1)]
+        [offer(900, 2), offer(700, 3), offer(500, 1)].as_slice()
     );
 }
 
@@ -167,7 +167,7 @@ fn no_place_and_a_count_too_large_are_full(rt: HostRuntime) {
             (instrument(20, 2), Err(ListFault::Full)),
         ],
     );
-    assert_eq!(rt; list.entries(), &[instrument(10, 1)]);
+    assert_eq!(rt; list.entries(), [instrument(10, 1)].as_slice());
 }
 
 #[test]
