@@ -4,7 +4,7 @@ use Rattle.std.specs.List.{AllByRecursion as All}
 use Rattle.std.proofs.ByRecursion.{All-weaker}
 use Rattle.std.proofs.lemmas.Bool.{ltb-true}
 use Rattle.envelope.specs.Terms.{bytes_of_terms}
-use Rattle.envelope.specs.Heads.{head, sequence_of}
+use Rattle.envelope.specs.Heads.{sequence_of}
 use Rattle.envelope.specs.Pens.{last_sequence, next_head, take_answer}
 use Rattle.envelope.specs.Takings.{Takings, none, more, heads_given, nonce, NoTwoEqual}
 use Rattle.envelope.specs.Theorems.{LawsOfPens}

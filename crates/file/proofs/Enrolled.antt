@@ -1,11 +1,10 @@
 -- A bidder enrolled in the list over 64 places.
-use Rattle.std.proofs.Common.{◌≡◌, ℕ, ◌+◌, ◌<◌, ◌≤◌, Bool, true, false, cond, ltb, List, ◌++◌, length, take, drop, Some, None, Ok, Err, Option, Result, Ordering, sym, refl, ap, ◌∙◌, arith}
+use Rattle.std.proofs.Common.{◌≡◌, ℕ, ◌+◌, ◌≤◌, true, ltb, List, ◌++◌, length, take, drop, Some, None, Ok, Err, Option, Result, Ordering, sym, refl, ap, ◌∙◌, arith}
 use Rattle.std.proofs.lemmas.List.{length-take-le, drop_at}
 use Rattle.std.proofs.lemmas.Bool.{lt-ltb}
-use Rattle.list.specs.Insertion.{has_equal, inserted, refusal, unless_refused, answer_of, count_after, places_after}
+use Rattle.list.specs.Insertion.{inserted, refusal, unless_refused, answer_of, count_after, places_after}
 use Rattle.list.specs.Order.{by_key}
 use Rattle.list.specs.declared.faults.ListFault.{ListFault}
-use Rattle.list.specs.declared.faults.ListFault.TheVariants.{EqualEntry, Full}
 use Rattle.list.proofs.Laws.{length_inserted, granted, granted_entries, length_places_after}
 use Rattle.file.specs.Contents.{enrolled}
 use Rattle.file.specs.Enrolling.{enrolling_answer, register_after}

@@ -1,5 +1,5 @@
 -- The sale of an accepted file: its terms and its register keep to their limits, and its bidders rise.
-use Rattle.std.proofs.Common.{◌≡◌, ℕ, ◌+◌, ◌<◌, ◌≤◌, Bool, true, false, cond, ◌&&◌, ltb, leb, List, [], length, Some, None, Ok, Err, codes, Option, Result, Ordering, sym, refl, ap, ◌∙◌, subst, arith}
+use Rattle.std.proofs.Common.{◌≡◌, ℕ, ◌+◌, ◌<◌, ◌≤◌, Bool, true, false, cond, ◌&&◌, ltb, leb, List, [], length, Some, None, Ok, Err, codes, Option, Result, Ordering, refl, ap, subst, arith}
 use Rattle.std.specs.Str.{bytes_eq}
 use Rattle.engine.specs.declared.variants.Variant.{Variant}
 use Rattle.std.proofs.lemmas.Bool.{ltb-true, leb-true, cond_both}
@@ -13,7 +13,7 @@ use Rattle.file.specs.Contents.{Sale, with_lot, with_register, and_then, enrolle
 use Rattle.file.specs.Fields.{holds_comma, field, behind}
 use Rattle.file.specs.Form.{Items, end, broken, item, lot_item, bidder_item, envelope_item, items, Verdict, refused, passed, said, line_must_say, lot_values, variant_of, bidder_values, is_key, judged, after_verdict, at_the_end}
 use Rattle.file.specs.Numbers.{number_of}
-use Rattle.file.specs.Theorems.{KeepsLimits, AcceptedFilesKeepLimits}
+use Rattle.file.specs.Theorems.{AcceptedFilesKeepLimits}
 use Rattle.file.specs.Hexadecimal.{written_bytes}
 use Rattle.file.specs.Lines.{Bytes, Lines, finished, torn, line, lines}
 use Rattle.file.specs.declared.faults.FileFault.{FileFault}

@@ -1,12 +1,12 @@
 -- What lines say is well formed: keys are 32 digits, envelopes an even number of them.
-use Rattle.std.proofs.Common.{◌≡◌, ℕ, ◌+◌, Bool, true, false, cond, ◌&&◌, leb, List, [], length, Some, None, Ok, Err, codes, Option, Result, sym, refl, ap, ◌∙◌, subst, arith}
+use Rattle.std.proofs.Common.{◌≡◌, ℕ, ◌+◌, Bool, true, false, ◌&&◌, leb, List, [], length, Some, None, Ok, Err, codes, Option, refl, ap, subst, arith}
 use Rattle.std.specs.Str.{bytes_eq}
 use Rattle.std.proofs.lemmas.Bool.{cond_both}
 use Rattle.engine.specs.declared.variants.Variant.{Variant}
 use Rattle.file.specs.Lines.{Lines, finished, torn, line}
 use Rattle.file.specs.Fields.{holds_comma, field, behind}
 use Rattle.file.specs.Numbers.{number_of}
-use Rattle.file.specs.Form.{Item, lot_item, bidder_item, envelope_item, variant_of, lot_values, lot_line_item, is_key, bidder_values, bidder_line_item, is_envelope, envelope_line_item, Verdict, refused, passed, said, line_must_be, line_must_say, judged, Items, end, broken, item, after_verdict, at_the_end, items}
+use Rattle.file.specs.Form.{Item, lot_item, bidder_item, envelope_item, variant_of, lot_values, is_key, bidder_values, bidder_line_item, is_envelope, envelope_line_item, Verdict, refused, passed, said, line_must_be, line_must_say, judged, Items, end, broken, item, after_verdict, at_the_end, items}
 use Rattle.file.specs.Said.{WellFormed}
 use Rattle.file.specs.Read.{left_of, first_of, rest_of}
 use Rattle.file.specs.declared.faults.FileFault.{FileFault}

@@ -1,5 +1,5 @@
 -- Lines of a file gone through one after the other, their envelopes lodged.
-use Rattle.std.proofs.Common.{◌≡◌, ℕ, List, [], ◌∷◌, ◌++◌, Some, None, Ok, Err, sym, refl, ap, ◌∙◌, subst, Bor}
+use Rattle.std.proofs.Common.{◌≡◌, ℕ, List, [], ◌∷◌, ◌++◌, Some, None, Ok, Err, sym, ap, ◌∙◌, subst, Bor}
 use Rattle.room.specs.declared.state.RoomState.{RoomState}
 use Rattle.file.specs.Read.{first_of, rest_of}
 use Rattle.file.proofs.Sound.{first_then, first_broken, first_ended}
@@ -10,7 +10,7 @@ use Rattle.room.specs.Rooms.{Contents as Room, contents}
 use Rattle.room.specs.Calls.{Lodging, answer_to, room_after}
 use Rattle.file.specs.Lines.{Bytes}
 use Rattle.file.specs.Contents.{Sent, envelopes_in}
-use Rattle.file.specs.Form.{Item, Items, end, broken, item, lot_item, bidder_item, envelope_item}
+use Rattle.file.specs.Form.{Item, Items, item}
 use Rattle.file.specs.Hexadecimal.{written_bytes}
 use Rattle.file.specs.Report.{two_values, answer_number, answer_lines, lodged_all}
 use Rattle.file.specs.Said.{item_of}

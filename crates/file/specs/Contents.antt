@@ -1,5 +1,5 @@
 -- The contents of a sale file: its lot, variant and terms, its register by rising bidder, and its envelopes with their lines.
-use Rattle.std.specs.Prelude.{ℕ, ◌+◌, Bool, true, false, cond, List, [], ◌∷◌, length, Ok, Err, Result, nat_lt}
+use Rattle.std.specs.Prelude.{ℕ, cond, List, [], ◌∷◌, length, Ok, Err, Result, nat_lt}
 use Rattle.engine.specs.declared.variants.Variant.{Variant}
 use Rattle.engine.specs.declared.variants.Variant.TheVariants.{Dumbo}
 use Rattle.list.specs.Insertion.{has_equal, inserted}

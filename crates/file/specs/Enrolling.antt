@@ -1,5 +1,5 @@
 -- What enrolling a bidder leaves in the list of bidders, and what gathering a file leaves in the places lent for it.
-use Rattle.std.specs.Prelude.{◌≡◌, ℕ, ◌≤◌, List, ◌++◌, length, take, drop, Ok, Err, Result}
+use Rattle.std.specs.Prelude.{ℕ, List, ◌++◌, length, take, drop, Ok, Err, Result}
 use Rattle.list.specs.declared.faults.ListFault.{ListFault}
 use Rattle.file.specs.Contents.{Sale, gathered, enrolled_in}
 use Rattle.file.specs.Form.{Items}

@@ -1,8 +1,8 @@
 -- What a reader of a sale file gives, and what is left for it to give.
-use Rattle.std.specs.Prelude.{ℕ, cond, ltb, length, drop, Some, None, Ok, Err, Option, Result}
-use Rattle.file.specs.Lines.{Bytes, lines}
-use Rattle.file.specs.Form.{Item, lot_item, bidder_item, envelope_item, Items, end, broken, item, items}
-use Rattle.file.specs.Said.{item_of, said_by}
+use Rattle.std.specs.Prelude.{cond, drop, Some, None, Ok, Err, Option, Result}
+use Rattle.file.specs.Lines.{lines}
+use Rattle.file.specs.Form.{Item, Items, end, broken, item, items}
+use Rattle.file.specs.Said.{said_by}
 use Rattle.file.specs.declared.faults.FileFault.{FileFault}
 use Rattle.file.specs.declared.faults.FileFault.TheVariants.{TooLong}
 use Rattle.file.specs.declared.line.Line.{Line}

@@ -53,7 +53,8 @@ fn entries_come_by_rising_number(rt: HostRuntime) {
             instrument(20, 2),
             instrument(25, 4),
             instrument(30, 3),
-        ].as_slice()
+        ]
+        .as_slice()
     );
 }
 

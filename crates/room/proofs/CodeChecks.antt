@@ -1,5 +1,5 @@
 -- Facts about answers and about checks in order.
-use Rattle.std.proofs.Common.{◌≡◌, ℕ, Bool, true, false, cond, List, [], ◌∷◌, ◌++◌, Ok, Err, Result, sym, refl, ap, ◌∙◌, arith}
+use Rattle.std.proofs.Common.{◌≡◌, ℕ, Bool, true, false, cond, List, [], ◌∷◌, ◌++◌, Ok, Err, Result, sym, refl, ap, arith}
 use Rattle.fault.specs.Checks.{Check, decided}
 
 -- What a grant answers, and what a refusal tells.

@@ -1,8 +1,8 @@
 -- Each way out of lodging and asking.
-use Rattle.std.proofs.Common.{◌≡◌, ℕ, zero, suc, ◌+◌, ◌-◌, ◌^◌, ◌<◌, ◌≤◌, Bool, true, false, cond, eqb, ltb, List, [], ◌∷◌, ◌++◌, map, length, get_or, take, drop, set, Some, Ok, Err, Result, sym, refl, ap, ◌∙◌, subst, ap₂, arith}
+use Rattle.std.proofs.Common.{◌≡◌, ℕ, ◌^◌, ◌<◌, ◌≤◌, Bool, true, false, cond, eqb, ltb, List, [], ◌∷◌, ◌++◌, length, get_or, take, set, Some, Ok, Err, Result, sym, refl, ap, ◌∙◌, subst, ap₂, arith}
 use Rattle.std.specs.Int.Digits.{AllBelowBase}
 use Rattle.std.specs.Str.{bytes_eq}
-use Rattle.std.proofs.lemmas.Bool.{ne_eqb, eq-eqb, eqb-true, lt-ltb, le-ltb}
+use Rattle.std.proofs.lemmas.Bool.{eq-eqb, eqb-true, lt-ltb, le-ltb}
 use Rattle.std.proofs.lemmas.List.{take_at}
 use Rattle.fault.specs.Checks.{Check, decided}
 use Rattle.engine.specs.declared.variants.Variant.{Variant}
@@ -11,7 +11,7 @@ use Rattle.envelope.specs.Heads.{lot_of, bidder_of, sequence_of}
 use Rattle.envelope.specs.Envelopes.{envelope_size, tag_part, right_tag}
 use Rattle.room.specs.Sales.{Bytes, registered, key_of, tag_due}
 use Rattle.room.specs.Rooms.{Contents, register_of, sale_of, kept_for, sequence_in, contents, holding_of, no_slot}
-use Rattle.room.specs.Calls.{Lodging, Asking, Answer, answer_to, room_after, lodging_checks, holding, is_open, Met}
+use Rattle.room.specs.Calls.{Lodging, Asking, Answer, answer_to, room_after, lodging_checks, holding, Met}
 use Rattle.room.specs.Admission.{admitted}
 use Rattle.room.specs.Slots.{room_of, filled, IsFirst, HasNone, head_checks, Lodged}
 use Rattle.room.specs.declared.admission.Op.TheVariants.{Lodge}

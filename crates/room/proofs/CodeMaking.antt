@@ -1,12 +1,12 @@
 -- Facts about registers that rise, and about a room just made.
-use Rattle.std.proofs.Common.{◌≡◌, ℕ, ◌+◌, ◌^◌, ◌<◌, ◌≤◌, Bool, true, false, cond, ◌&&◌, leb, List, [], ◌∷◌, ◌++◌, map, length, get_or, take, drop, Ok, sym, refl, ap, ◌∙◌, ap₂, arith}
+use Rattle.std.proofs.Common.{◌≡◌, ℕ, ◌+◌, ◌^◌, ◌<◌, ◌≤◌, true, false, List, [], ◌∷◌, ◌++◌, map, length, get_or, take, drop, Ok, refl, ap, ◌∙◌, ap₂}
 use Rattle.std.specs.List.{AllByRecursion as All}
 use Rattle.std.proofs.ByRecursion.{All-push}
 use Rattle.std.proofs.lemmas.Bool.{le-leb, lt-leb}
 use Rattle.std.proofs.lemmas.List.{drop_more, drop_all, take_more, take_at, length-map}
 use Rattle.engine.specs.declared.variants.Variant.{Variant}
 use Rattle.room.specs.Sales.{Bytes}
-use Rattle.room.specs.Rooms.{Holding, Contents, holding_of, contents}
+use Rattle.room.specs.Rooms.{holding_of, contents}
 use Rattle.room.specs.Slots.{new_slot, room_of}
 use Rattle.room.specs.Making.{rises_from, lawful_register, nothing_held, Made}
 use Rattle.room.specs.declared.register.RegisterEntry.{RegisterEntry}

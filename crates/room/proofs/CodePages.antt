@@ -1,7 +1,7 @@
 -- Facts about the writing of numbers, lines and pages into a place.
-use Rattle.std.proofs.Common.{◌≡◌, ℕ, suc, ◌+◌, ◌-◌, ◌/◌, ◌%◌, ◌^◌, ◌<◌, ◌≤◌, List, [], ◌∷◌, ◌++◌, length, get_or, take, drop, set, codes, decimal, sym, refl, ap, ◌∙◌, add-one, arith}
+use Rattle.std.proofs.Common.{◌≡◌, ℕ, ◌+◌, ◌/◌, ◌%◌, ◌^◌, ◌<◌, ◌≤◌, List, [], ◌∷◌, ◌++◌, length, get_or, take, drop, set, codes, decimal, sym, refl, ap, ◌∙◌, add-one, arith}
 use lib.Seq.{paste}
-use Rattle.std.proofs.lemmas.List.{set_split, length-append, length_push, length-take, length-drop, append_assoc, append-nil, take_more, drop_more, take-append-drop}
+use Rattle.std.proofs.lemmas.List.{set_split, length-append, length_push, length-take, length-drop, append_assoc, append-nil, take_more, take-append-drop}
 use Rattle.std.proofs.lemmas.List.Edits.{paste_all, paste-paste}
 use Rattle.std.proofs.lemmas.Fmt.{decimal_digit, decimal_step}
 use Rattle.room.specs.declared.sheet.SheetEntry.{SheetEntry}

@@ -1,16 +1,16 @@
 -- Facts about the slots of a room: the first slot of a bidder, and the envelope that a slot keeps.
-use Rattle.std.proofs.Common.{◌≡◌, ℕ, zero, suc, ◌+◌, ◌-◌, ◌^◌, ◌<◌, ◌≤◌, Bool, true, false, cond, eqb, List, [], ◌∷◌, ◌++◌, map, length, get_or, take, drop, set, Some, None, Option, sym, refl, ap, ◌∙◌, ap₂, add-one, arith}
+use Rattle.std.proofs.Common.{◌≡◌, ℕ, zero, suc, ◌+◌, ◌^◌, ◌<◌, ◌≤◌, Bool, true, false, cond, eqb, List, [], ◌∷◌, ◌++◌, map, length, get_or, take, drop, set, Some, None, sym, refl, ap, ◌∙◌, ap₂, add-one, arith}
 use Rattle.std.specs.Int.Digits.{AllBelowBase}
 use Rattle.std.proofs.lemmas.Bool.{ne_eqb, eq-eqb, eqb-true}
-use Rattle.std.proofs.lemmas.List.{take_at, drop_at, drop-drop, take-append-drop, length-drop}
+use Rattle.std.proofs.lemmas.List.{take_at, drop-drop, take-append-drop, length-drop}
 use Rattle.engine.specs.declared.variants.Variant.{Variant}
 use Rattle.cipher.specs.Mode.{tag_size}
 use Rattle.envelope.specs.Heads.{head, lot_of, bidder_of, sequence_of}
-use Rattle.envelope.specs.Envelopes.{envelope_size, head_part, sealed_part, tag_part}
-use Rattle.envelope.proofs.HeadLaws.{head_length, sequence_back}
+use Rattle.envelope.specs.Envelopes.{envelope_size, sealed_part, tag_part}
+use Rattle.envelope.proofs.HeadLaws.{sequence_back}
 use Rattle.envelope.proofs.Laws.{head_back}
 use Rattle.room.specs.Sales.{Bytes, registered, key_of}
-use Rattle.room.specs.Rooms.{Holding, entry_of, kept_for, sequence_in, accepted, envelope_in, holding_of}
+use Rattle.room.specs.Rooms.{entry_of, kept_for, sequence_in, accepted, envelope_in, holding_of}
 use Rattle.room.specs.Slots.{new_slot, filled, HasNone}
 use Rattle.room.specs.declared.register.RegisterEntry.{RegisterEntry}
 use Rattle.room.specs.declared.slots.Slot.{Slot}

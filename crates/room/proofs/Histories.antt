@@ -4,7 +4,6 @@ use mathlib.Core.Path.{fun_ext}
 use Rattle.std.proofs.lemmas.List.{take_at}
 use Rattle.std.proofs.lemmas.Bool.{and_parts}
 use Rattle.room.specs.Sales.{Bytes, registered}
-use Rattle.room.specs.Page.{page}
 use Rattle.room.specs.Rooms.{entry_of, sale_of, kept_for, contents}
 use Rattle.room.specs.Calls.{Opening, opening_checks, answer_to, sheet_of, page_of_room}
 use Rattle.room.specs.Making.{making_checks, rises_from, nothing_held}

@@ -1,4 +1,4 @@
-use Rattle.std.proofs.Common.{◌≡◌, sym, ap, ◌∙◌, rules}
+use Rattle.std.proofs.Common.{rules}
 use Rattle.file.proofs.Enrolled.{is_enrolled}
 use Rattle.file.proofs.enrolling.enroll.Goals as goal
 

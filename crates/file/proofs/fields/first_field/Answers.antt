@@ -1,6 +1,5 @@
-use Rattle.std.proofs.Common.{◌≡◌, take, ap, arith, rules}
+use Rattle.std.proofs.Common.{rules}
 use Rattle.file.proofs.Places.{place_le}
-use Rattle.file.specs.Fields.{place_of}
 use Rattle.file.proofs.fields.first_field.Goals as goal
 
 pub returns : goal.returns

@@ -1,4 +1,4 @@
-use Rattle.std.proofs.Common.{◌≡◌, true, false, get_or, sym, ◌∙◌, arith, rules}
+use Rattle.std.proofs.Common.{◌≡◌, true, false, get_or, sym, ◌∙◌, arith}
 use Rattle.file.specs.Hexadecimal.{is_hex_digit}
 use Rattle.file.proofs.Pairs.{hex_more, hex_other, hex_end}
 use Rattle.file.proofs.hexadecimal.are_digits.Goals as goal

@@ -1,4 +1,4 @@
-use Rattle.std.proofs.Common.{◌≡◌, arith, rules}
+use Rattle.std.proofs.Common.{arith, rules}
 use Rattle.file.proofs.Pairs.{hex_at, decoded_none, decoded_more, decoded_all}
 use Rattle.file.proofs.hexadecimal.decode.Goals as goal
 

@@ -1,4 +1,4 @@
-use Rattle.std.proofs.Common.{◌≡◌, Some, None, Ok, Err, sym, refl, ap, ◌∙◌}
+use Rattle.std.proofs.Common.{◌≡◌, Some, Ok, sym, refl, ap, ◌∙◌}
 use Rattle.file.specs.Read.{left_of, first_of}
 use Rattle.file.specs.Said.{item_of, said_by}
 use Rattle.file.proofs.Sound.{left_well_formed, first_well_formed}

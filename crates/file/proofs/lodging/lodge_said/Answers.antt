@@ -1,4 +1,4 @@
-use Rattle.std.proofs.Common.{◌≡◌, refl}
+use Rattle.std.proofs.Common.{refl}
 use Rattle.std.proofs.lemmas.Result.{IfOk-weaker}
 use Rattle.file.proofs.Through.{through_lot, through_bidder, through_envelope}
 use Rattle.file.proofs.lodging.lodge_said.Goals as goal

@@ -1,5 +1,5 @@
-use Rattle.std.proofs.Common.{◌≡◌, true, false, refl, arith, rules}
-use Rattle.file.specs.Numbers.{number_of, well_led}
+use Rattle.std.proofs.Common.{rules}
+use Rattle.file.specs.Numbers.{number_of}
 use Rattle.file.proofs.numbers.number.Goals as goal
 
 pub returns-then-digits-eq0 : goal.returns-then-digits-eq0

@@ -1,6 +1,6 @@
 use Rattle.std.proofs.Common.{◌≡◌, true, false, get_or, sym, ◌∙◌, arith, rules}
 use Rattle.file.specs.Numbers.{is_digit}
-use Rattle.file.proofs.Digits.{read_on, read_more, read_other, read_large, read_end, read_start}
+use Rattle.file.proofs.Digits.{read_more, read_other, read_large, read_end, read_start}
 use Rattle.file.proofs.numbers.value.Goals as goal
 
 pub loop-i-init : goal.loop-i-init

@@ -1,9 +1,9 @@
-use Rattle.std.proofs.Common.{◌≡◌, [], length, take, drop, Some, None, Ok, Err, sym, refl, ap, ◌∙◌, arith, rules}
+use Rattle.std.proofs.Common.{◌≡◌, [], take, Some, None, Ok, Err, sym, refl, ap, ◌∙◌, arith}
 use Rattle.std.proofs.lemmas.Result.{err_from_is_err_and}
 use Rattle.engine.specs.declared.variants.Variant.TheVariants.{Dumbo}
 use Rattle.list.specs.Insertion.{entries_of}
-use Rattle.file.specs.Contents.{gathered, enrolled_in, said_in, sale_in, nothing}
-use Rattle.file.specs.Enrolling.{sale_of, sale_by, written_over}
+use Rattle.file.specs.Contents.{gathered, enrolled_in, sale_in, nothing}
+use Rattle.file.specs.Enrolling.{sale_of, sale_by}
 use Rattle.file.specs.Read.{left_of, first_of}
 use Rattle.file.specs.Said.{item_of, said_by}
 use Rattle.file.proofs.Sound.{left_well_formed, first_well_formed}

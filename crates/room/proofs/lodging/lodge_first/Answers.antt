@@ -1,4 +1,4 @@
-use Rattle.std.proofs.Common.{◌≡◌, sym, ◌∙◌, subst}
+use Rattle.std.proofs.Common.{◌∙◌}
 use Rattle.std.proofs.lemmas.List.{length-take-le}
 use Rattle.room.proofs.CodeLodging.{lodged_front}
 use Rattle.room.proofs.lodging.lodge_first.Goals as goal

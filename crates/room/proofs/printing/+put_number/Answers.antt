@@ -1,4 +1,4 @@
-use Rattle.std.proofs.Common.{◌≡◌, ◌^◌, ◌<◌, arith, rules}
+use Rattle.std.proofs.Common.{◌^◌, ◌<◌, arith, rules}
 use Rattle.room.proofs.CodePages.{number_one, number_last, one_digit, more_digits}
 use Rattle.room.proofs.printing.+put_number.Goals as goal
 

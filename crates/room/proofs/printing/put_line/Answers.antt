@@ -1,6 +1,5 @@
 use Rattle.std.proofs.Common.{◌≡◌, ◌+◌, ◌≤◌, [], ◌∷◌, ◌++◌, length, decimal, ap, ◌∙◌, arith}
 use Rattle.std.proofs.lemmas.List.{length-append}
-use Rattle.room.specs.Page.{line}
 use Rattle.room.specs.Places.{written_at}
 use Rattle.room.proofs.CodePages.{written_then, length_line, line_parts}
 use Rattle.room.proofs.printing.put_line.Goals as goal

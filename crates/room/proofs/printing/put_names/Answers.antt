@@ -1,4 +1,4 @@
-use Rattle.std.proofs.Common.{◌≡◌, sym, refl, arith, rules}
+use Rattle.std.proofs.Common.{sym, rules}
 use Rattle.room.proofs.CodePages.{names_written, names_length}
 use Rattle.room.proofs.printing.put_names.Goals as goal
 

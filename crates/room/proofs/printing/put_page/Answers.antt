@@ -1,4 +1,4 @@
-use Rattle.std.proofs.Common.{◌≡◌, sym, ap, ◌∙◌, arith}
+use Rattle.std.proofs.Common.{arith}
 use Rattle.room.proofs.CodePages.{page_length, page_written}
 use Rattle.room.proofs.printing.put_page.Goals as goal
 

@@ -1,5 +1,5 @@
 use Rattle.room.specs.declared.slots.Slot.{Slot}
-use Rattle.std.proofs.Common.{◌≡◌, get_or, sym, ap, ◌∙◌, arith, below_more}
+use Rattle.std.proofs.Common.{◌≡◌, get_or, ap, ◌∙◌, arith, below_more}
 use Rattle.std.proofs.lemmas.List.{get_or_default}
 use Rattle.room.proofs.slots.place_of.Goals as goal
 

@@ -1,4 +1,4 @@
-use Rattle.std.proofs.Common.{◌≡◌, ◌++◌, length, take, drop, sym, ap, ◌∙◌, ap₂, length-drop}
+use Rattle.std.proofs.Common.{◌++◌, drop, sym, ◌∙◌, ap₂, length-drop}
 use Rattle.std.proofs.lemmas.List.{take_rest}
 use Rattle.room.proofs.slots.tag_over.Goals as goal
 

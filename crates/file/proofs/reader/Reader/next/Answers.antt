@@ -1,5 +1,5 @@
 use Rattle.std.proofs.Common.{◌≡◌, true, sym, refl, ap, ◌∙◌, arith, rules}
-use Rattle.file.specs.Form.{end, broken, at_the_end}
+use Rattle.file.specs.Form.{at_the_end}
 use Rattle.file.specs.Read.{left_of}
 use Rattle.file.proofs.Cuts.{left_long, left_end, not_the_end, stays_refused, stays_ended}
 use Rattle.file.proofs.reader.Reader.next.Goals as goal

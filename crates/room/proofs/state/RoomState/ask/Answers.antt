@@ -1,4 +1,3 @@
-use Rattle.std.proofs.Common.{sym, ◌∙◌}
 use Rattle.room.proofs.CodeLodging.{ask_unknown, ask_known}
 use Rattle.room.proofs.state.RoomState.ask.Goals as goal
 
