@@ -1,6 +1,6 @@
 -- Pens: each head has a higher sequence than those before it.
 use Rattle.std.proofs.Common.{◌≡◌, ℕ, zero, suc, ◌+◌, ◌<◌, ◌≤◌, Bool, true, false, cond, ltb, List, [], ◌++◌, map, length, get_or, Ok, Err, Result, sym, refl, ap, ◌∙◌, subst, arith}
-use Rattle.std.specs.List.{AllByRecursion as All}
+use Rattle.std.specs.List.{AllByRecursion}
 use Rattle.std.proofs.ByRecursion.{All-weaker}
 use Rattle.std.proofs.lemmas.Bool.{ltb-true}
 use Rattle.envelope.specs.Terms.{bytes_of_terms}
@@ -26,7 +26,7 @@ granted_head p b h e = go (ltb p.given last_sequence) refl e
 abbrev Later : ℕ → Head → Type 0
 Later n h = (n < h.sequence) × (h.sequence ≤ last_sequence)
 
-later : {p q : Pen} {answers : List (Result Head EnvelopeFault)} → Takings p answers q → All (Later p.given) (heads_given answers)
+later : {p q : Pen} {answers : List (Result Head EnvelopeFault)} → Takings p answers q → AllByRecursion (Later p.given) (heads_given answers)
 later none = tt
 later (more {p = p} {q = q} {bidder = b} {a = Ok h} {rest = answers} t rest) =
     let g = granted_head p b h t.answers in
@@ -34,7 +34,7 @@ later (more {p = p} {q = q} {bidder = b} {a = Ok h} {rest = answers} t rest) =
     let n : q.given ≡ p.given + 1 = ap (λ x. x.given) t.pen_after in
     ((omega arith, omega arith), All-weaker (Later q.given) (Later p.given) (λ x l. (omega arith, l.1)) (heads_given answers) (later rest))
 later (more {p = p} {q = q} {a = Err f} {rest = answers} t rest) =
-    subst (λ x. All (Later x.given) (heads_given answers)) t.pen_after (later rest)
+    subst (λ x. AllByRecursion (Later x.given) (heads_given answers)) t.pen_after (later rest)
 
 -- Heads of different sequences have different bytes.
 apart : (h other : Head) → h.sequence < other.sequence → other.sequence ≤ last_sequence → nonce h ≡ nonce other → ⊥
@@ -64,18 +64,18 @@ counts (more {p = p} {q = q} {a = Err f} {rest = answers} t rest) k l =
     let n : q.given ≡ p.given = ap (λ x. x.given) t.pen_after in
     counts rest k l ∙ omega arith
 
--- All heads have what the pen has.
+-- AllByRecursion heads have what the pen has.
 abbrev Of : Pen → Head → Type 0
 Of p h = (h.lot ≡ p.lot) × (bytes_of_terms h.terms ≡ bytes_of_terms p.terms)
 
-belong : {p q : Pen} {answers : List (Result Head EnvelopeFault)} → Takings p answers q → All (Of p) (heads_given answers)
+belong : {p q : Pen} {answers : List (Result Head EnvelopeFault)} → Takings p answers q → AllByRecursion (Of p) (heads_given answers)
 belong none = tt
 belong (more {p = p} {q = q} {bidder = b} {a = Ok h} {rest = answers} t rest) =
     let e = (granted_head p b h t.answers).1 in (
       (ap (λ x. x.lot) e, ap (λ x. bytes_of_terms x.terms) e),
       All-weaker (Of q) (Of p) (λ x l. (l.0 ∙ ap (λ y. y.lot) t.pen_after, l.1 ∙ ap (λ y. bytes_of_terms y.terms) t.pen_after)) (heads_given answers) (belong rest),
     )
-belong (more {p = p} {q = q} {a = Err f} {rest = answers} t rest) = subst (λ x. All (Of x) (heads_given answers)) t.pen_after (belong rest)
+belong (more {p = p} {q = q} {a = Err f} {rest = answers} t rest) = subst (λ x. AllByRecursion (Of x) (heads_given answers)) t.pen_after (belong rest)
 
 pub pen_laws : LawsOfPens
 pen_laws =

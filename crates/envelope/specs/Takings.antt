@@ -1,6 +1,6 @@
 -- What a pen gives over any list of takings, granted or refused.
 use Rattle.std.specs.Prelude.{◌≡◌, ℕ, List, [], ◌∷◌, Ok, Err, Result, ◌≢◌}
-use Rattle.std.specs.List.{AllByRecursion as All}
+use Rattle.std.specs.List.{AllByRecursion}
 use Rattle.envelope.specs.Heads.{head}
 use Rattle.envelope.specs.Pens.{pen_state, Taken}
 use Rattle.envelope.specs.declared.heads.Head.{Head}
@@ -29,4 +29,4 @@ nonce h = head h.lot h.bidder h.sequence
 -- No two of the heads have equal bytes.
 abbrev pub NoTwoEqual : List Head → Type 0
 NoTwoEqual [] = Unit {0}
-NoTwoEqual (h ∷ hs) = All (λ other. nonce h ≢ nonce other) hs × NoTwoEqual hs
+NoTwoEqual (h ∷ hs) = AllByRecursion (λ other. nonce h ≢ nonce other) hs × NoTwoEqual hs

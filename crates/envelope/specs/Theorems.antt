@@ -1,6 +1,6 @@
 -- What letters, pens and sealed bids mean together.
 use Rattle.std.specs.Prelude.{◌≡◌, ℕ, ◌+◌, ◌^◌, ◌<◌, ◌≤◌, true, false, ◌↔◌, List, [], map, length, Result, slice_index}
-use Rattle.std.specs.List.{AllByRecursion as All}
+use Rattle.std.specs.List.{AllByRecursion}
 use Rattle.fault.specs.Checks.{granted}
 use Rattle.engine.specs.declared.variants.Variant.{Variant}
 use Rattle.cipher.specs.Calls.{check_answer}
@@ -19,7 +19,7 @@ pub record LawfulBid (amount : ℕ) (note : List ℕ) : Type 0 where
   pub amount_within : amount ≤ most_cents
   pub note_within : length note ≤ most_note_bytes
 
--- All that sealing a bid asks for.
+-- AllByRecursion that sealing a bid asks for.
 pub record LawfulSealing (v : Variant) (key : List ℕ) (amount : ℕ) (note place : List ℕ) : Type 0 where
   pub key_length : length key ≡ 16
   pub place_length : length place ≡ envelope_size v
@@ -49,7 +49,7 @@ pub record LawsOfPens : Type 0 where
   -- Every head has the pen's lot and terms.
   pub heads_have_the_lot_and_terms_of_their_pen :
       (lot : ℕ) (terms : List ℕ) (p q : Pen) (answers : List (Result Head EnvelopeFault)) → Fresh lot terms p → Takings p answers q
-      → All (λ h. (h.lot ≡ lot) × (bytes_of_terms h.terms ≡ terms)) (heads_given answers)
+      → AllByRecursion (λ h. (h.lot ≡ lot) × (bytes_of_terms h.terms ≡ terms)) (heads_given answers)
 
 -- The laws of sealed bids.
 pub record LawsOfBids : Type 0 where

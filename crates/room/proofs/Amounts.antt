@@ -1,6 +1,6 @@
 -- Where two sales left equal pages, every standing amount is equal, and the other way round.
 use Rattle.std.proofs.Common.{◌≡◌, ℕ, ◌^◌, ◌<◌, Bool, true, false, cond, ◌↔◌, List, Some, None, Option, sym, ap, ◌∙◌, subst, ap₂, arith}
-use Rattle.std.specs.List.{AllByRecursion as All}
+use Rattle.std.specs.List.{AllByRecursion}
 use Rattle.envelope.specs.Letters.{amount_offered}
 use Rattle.envelope.proofs.Laws.{amount_in_le}
 use Rattle.room.specs.Sales.{Bytes, Sale, StandingAmount, registered}
@@ -25,7 +25,7 @@ amount_bound s b (Some e) = go _ _ (amount_small _)
 -- What a lawful making leaves behind.
 pub record Lawful (s : Sale) : Type 0 where
   pub lot : s.lot < 2 ^ 32
-  pub bidders : All (λ x. x.bidder < 2 ^ 32) s.register
+  pub bidders : AllByRecursion (λ x. x.bidder < 2 ^ 32) s.register
   pub rising : RisesFrom 0 s.register
 
 -- Where es were lodged in a sale, `kept` is kept, and p is its page.
@@ -61,7 +61,7 @@ module _ (s : Sale) where
       unfolding sheet
       sheet_up = sheet_rises amounts 0 s.register w.rising
 
-      sheet_small : All Written sheet
+      sheet_small : AllByRecursion Written sheet
       unfolding sheet
       sheet_small = sheet_written amounts s.register w.bidders (λ b. amount_bound s b (l.kept b))
 

@@ -1,7 +1,7 @@
 -- The program's rooms keep the rules: what each call promises is a step of them, and so a chain of calls is a run.
 use Rattle.std.proofs.Common.{◌≡◌, ℕ, suc, ◌≤◌, Bool, true, false, cond, eqb, ltb, List, [], ◌∷◌, map, length, Some, Ok, Err, sym, refl, ap, ◌∙◌, subst, ap₂, arith}
 use mathlib.Core.Path.{fun_ext}
-use Rattle.std.specs.List.{AllByRecursion as All}
+use Rattle.std.specs.List.{AllByRecursion}
 use Rattle.std.proofs.lemmas.Bool.{eqb-true, eqb-false, eq-eqb, ne_eqb, both_ways}
 use Rattle.fault.specs.Checks.{left}
 use Rattle.engine.specs.declared.variants.Variant.{Variant}
@@ -62,7 +62,7 @@ accepted_entries e (h ∷ hs) = go (eqb h.bidder (bidder_of e)) (accepted_entrie
 
 -- Where bidders rise strictly, each holding is found under its bidder.
 abbrev FoundIn : List Holding → ℕ → List Holding → Type 0
-FoundIn hs m xs = All (λ h. (m ≤ h.bidder) × (key_of (map entry_of hs) h.bidder ≡ h.key) × (kept_for hs h.bidder ≡ h.envelope)) xs
+FoundIn hs m xs = AllByRecursion (λ h. (m ≤ h.bidder) × (key_of (map entry_of hs) h.bidder ≡ h.key) × (kept_for hs h.bidder ≡ h.envelope)) xs
 
 found_behind : (x : Holding) (hs : List Holding) (m : ℕ) (ys : List Holding) → m ≤ x.bidder → FoundIn hs (suc x.bidder) ys → FoundIn (x ∷ hs) m ys
 found_behind x hs m [] l h = tt

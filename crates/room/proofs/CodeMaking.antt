@@ -1,6 +1,6 @@
 -- Facts about registers that rise, and about a room just made.
 use Rattle.std.proofs.Common.{◌≡◌, ℕ, ◌+◌, ◌^◌, ◌<◌, ◌≤◌, true, false, List, [], ◌∷◌, ◌++◌, map, length, get_or, take, drop, Ok, refl, ap, ◌∙◌, ap₂}
-use Rattle.std.specs.List.{AllByRecursion as All}
+use Rattle.std.specs.List.{AllByRecursion}
 use Rattle.std.proofs.ByRecursion.{All-push}
 use Rattle.std.proofs.lemmas.Bool.{le-leb, lt-leb}
 use Rattle.std.proofs.lemmas.List.{drop_more, drop_all, take_more, take_at, length-map}
@@ -35,7 +35,7 @@ rises_all m xs i h = ap (rises_from m) (drop_all i xs h)
 abbrev pub Fits : RegisterEntry → Type 0
 Fits x = x.bidder < 2 ^ 32
 
-pub fits_more : (xs : List RegisterEntry) (i : ℕ) → i < length xs → All Fits (take i xs) → Fits (get_or xs i nobody) → All Fits (take (i + 1) xs)
+pub fits_more : (xs : List RegisterEntry) (i : ℕ) → i < length xs → AllByRecursion Fits (take i xs) → Fits (get_or xs i nobody) → AllByRecursion Fits (take (i + 1) xs)
 fits_more xs i l a f = rw (take_more xs i nobody l) (All-push Fits (take i xs) (get_or xs i nobody) a f)
 
 -- New slots hold nothing.
@@ -44,7 +44,7 @@ new_held v lot [] = refl
 new_held v lot (r ∷ rs) = ap (λ hs. nothing_held r ∷ hs) (new_held v lot rs)
 
 pub made_granted : (lot : ℕ) (terms : Bytes) (register : List RegisterEntry) (before after : RoomState) (ts : Bytes) (ss : List Slot) (more : Bytes) (others : List Slot)
-    → length terms ≤ 64 → lawful_register register ≡ true → lot < 2 ^ 32 → All Fits register
+    → length terms ≤ 64 → lawful_register register ≡ true → lot < 2 ^ 32 → AllByRecursion Fits register
     → ts ≡ terms ++ more → ss ≡ map new_slot register ++ others
     → ((v : Variant) → contents v after ≡ room_of v lot (take (length terms) ts) Open (take (length register) ss))
     → Made lot terms register before (Ok tt) after

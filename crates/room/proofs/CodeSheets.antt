@@ -1,6 +1,6 @@
 -- Facts about the sheet of slots: one slot more, how long its page can be, and how both are written.
 use Rattle.std.proofs.Common.{◌≡◌, ℕ, suc, ◌+◌, ◌-◌, ◌*◌, ◌^◌, ◌<◌, ◌≤◌, Bool, true, false, cond, ltb, List, [], ◌∷◌, ◌++◌, map, length, get_or, take, drop, set, Some, None, Option, sym, refl, ap, ◌∙◌, ap₂, arith}
-use Rattle.std.specs.List.{flat_map, AllByRecursion as All}
+use Rattle.std.specs.List.{flat_map, AllByRecursion}
 use Rattle.std.specs.Str.{bytes_eq}
 use Rattle.std.proofs.lemmas.Fmt.{length-decimal-le}
 use Rattle.std.proofs.ByRecursion.{All-push}
@@ -105,7 +105,7 @@ Small x = (x.bidder < 2 ^ 32) × (x.amount ≤ 999999999999)
 abbrev pub Fits : Slot → Type 0
 Fits x = x.bidder < 2 ^ 32
 
-pub fits_more : (xs : List Slot) (i : ℕ) → i < length xs → All Fits (take i xs) → Fits (get_or xs i no_slot) → All Fits (take (i + 1) xs)
+pub fits_more : (xs : List Slot) (i : ℕ) → i < length xs → AllByRecursion Fits (take i xs) → Fits (get_or xs i no_slot) → AllByRecursion Fits (take (i + 1) xs)
 fits_more xs i l a f = rw (take_more xs i no_slot l) (All-push Fits (take i xs) (get_or xs i no_slot) a f)
 
 amount_le : (v : Variant) (key terms : Bytes) (o : Option Bytes) → amount_held v key terms o ≤ 999999999999
@@ -116,11 +116,11 @@ amount_le v key terms (Some e) = go (bytes_eq (tag_part e) (tag v key (head_part
     go true = amount_in_le (opened_text v key (head_part e) (sealed_part e))
     go false = omega arith
 
-small_sheet : (v : Variant) (lot : ℕ) (terms : Bytes) (xs : List Slot) → All Fits xs → All Small (sheet_in v lot terms xs)
+small_sheet : (v : Variant) (lot : ℕ) (terms : Bytes) (xs : List Slot) → AllByRecursion Fits xs → AllByRecursion Small (sheet_in v lot terms xs)
 small_sheet v lot terms [] h = tt
 small_sheet v lot terms (x ∷ xs) h = go (ltb 0 (offered v lot terms x)) (small_sheet v lot terms xs h.1)
   where
-    go : (t : Bool) → All Small (sheet_in v lot terms xs) → All Small (cond t (record { bidder = x.bidder; amount = offered v lot terms x } ∷ sheet_in v lot terms xs) (sheet_in v lot terms xs))
+    go : (t : Bool) → AllByRecursion Small (sheet_in v lot terms xs) → AllByRecursion Small (cond t (record { bidder = x.bidder; amount = offered v lot terms x } ∷ sheet_in v lot terms xs) (sheet_in v lot terms xs))
     go true s = ((h.0, amount_le v x.key terms (envelope_in v lot x)), s)
     go false s = s
 
@@ -132,7 +132,7 @@ line_le lot x h s =
     let e = length_line lot x in
     omega arith
 
-lines_le : (lot : ℕ) (xs : List SheetEntry) → lot < 2 ^ 32 → All Small xs → length (flat_map (line lot) xs) ≤ 35 * length xs
+lines_le : (lot : ℕ) (xs : List SheetEntry) → lot < 2 ^ 32 → AllByRecursion Small xs → length (flat_map (line lot) xs) ≤ 35 * length xs
 lines_le lot [] h s = omega arith
 lines_le lot (x ∷ xs) h s =
     let a = line_le lot x h s.0 in
@@ -140,7 +140,7 @@ lines_le lot (x ∷ xs) h s =
     let c = length-append (line lot x) (flat_map (line lot) xs) in
     omega arith
 
-pub page_fits : (v : Variant) (lot : ℕ) (terms : Bytes) (xs : List Slot) → lot < 2 ^ 32 → length xs ≤ 64 → All Fits xs → length (page lot (sheet_in v lot terms xs)) ≤ 2258
+pub page_fits : (v : Variant) (lot : ℕ) (terms : Bytes) (xs : List Slot) → lot < 2 ^ 32 → length xs ≤ 64 → AllByRecursion Fits xs → length (page lot (sheet_in v lot terms xs)) ≤ 2258
 page_fits v lot terms xs h few all =
     let a = lines_le lot (sheet_in v lot terms xs) h (small_sheet v lot terms xs all) in
     let b = sheet_le v lot terms xs in

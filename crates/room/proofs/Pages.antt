@@ -1,6 +1,6 @@
 -- Equal pages have equal sheets, and equal amounts give equal sheets.
 use Rattle.std.proofs.Common.{◌≡◌, ℕ, suc, ◌+◌, ◌^◌, ◌<◌, ◌≤◌, Bool, true, false, cond, eqb, ltb, leb, ◌⊎◌, List, [], ◌∷◌, ◌++◌, length, decimal, sym, refl, ap, ◌∙◌, subst, ap₂, inl, inr, ⊎_elim, append_assoc, arith, length-append}
-use Rattle.std.specs.List.{flat_map, AllByRecursion as All}
+use Rattle.std.specs.List.{flat_map, AllByRecursion}
 use Rattle.std.proofs.lemmas.List.{append_cancel_left}
 use Rattle.std.proofs.ByRecursion.{All-push}
 use Rattle.std.proofs.lemmas.Fmt.{decimal_by_steps, decimal_injective}
@@ -13,7 +13,7 @@ use Rattle.room.specs.declared.sheet.SheetEntry.{SheetEntry}
 use Rattle.room.proofs.Law.{sheet_by}
 
 -- What stands before the first separator.
-same_fields : (x : ℕ) (ds es r q : Bytes) → All (λ d. 48 ≤ d) ds → All (λ d. 48 ≤ d) es → x < 48 → ds ++ x ∷ r ≡ es ++ x ∷ q → (ds ≡ es) × (r ≡ q)
+same_fields : (x : ℕ) (ds es r q : Bytes) → AllByRecursion (λ d. 48 ≤ d) ds → AllByRecursion (λ d. 48 ≤ d) es → x < 48 → ds ++ x ∷ r ≡ es ++ x ∷ q → (ds ≡ es) × (r ≡ q)
 same_fields x [] [] r q a b low h = (refl, cc)
 same_fields x [] (e ∷ es) r q a b low h = let z : x ≡ e = cc in absurd (omega (arith, b.0))
 same_fields x (d ∷ ds) [] r q a b low h = let z : d ≡ x = cc in absurd (omega (arith, a.0))
@@ -23,8 +23,8 @@ same_fields x (d ∷ ds) (e ∷ es) r q a b low h =
     let i = same_fields x ds es r q a.1 b.1 low t in
     (ap₂ ◌∷◌ z i.0, i.1)
 
-digits_high : (n : ℕ) → n < 2 ^ 64 → All (λ d. 48 ≤ d) (decimal n)
-digits_high = decimal_by_steps (λ n ds. All (λ d. 48 ≤ d) ds) (λ n l. (omega arith, tt)) (λ n ds l a. All-push _ ds _ a (omega arith))
+digits_high : (n : ℕ) → n < 2 ^ 64 → AllByRecursion (λ d. 48 ≤ d) (decimal n)
+digits_high = decimal_by_steps (λ n ds. AllByRecursion (λ d. 48 ≤ d) ds) (λ n l. (omega arith, tt)) (λ n ds l a. All-push _ ds _ a (omega arith))
 
 same_decimals : (x m n : ℕ) (r q : Bytes) → x < 48 → m < 2 ^ 64 → n < 2 ^ 64 → decimal m ++ x ∷ r ≡ decimal n ++ x ∷ q → (m ≡ n) × (r ≡ q)
 same_decimals x m n r q low a b h =
@@ -47,7 +47,7 @@ line_some : (lot : ℕ) (a : SheetEntry) (r : Bytes) → 0 < length (line lot a 
 unfolding line
 line_some lot a r = simp length-append (omega arith)
 
-same_lines : (lot : ℕ) (xs ys : List SheetEntry) → lot < 2 ^ 64 → All Written xs → All Written ys → flat_map (line lot) xs ≡ flat_map (line lot) ys → xs ≡ ys
+same_lines : (lot : ℕ) (xs ys : List SheetEntry) → lot < 2 ^ 64 → AllByRecursion Written xs → AllByRecursion Written ys → flat_map (line lot) xs ≡ flat_map (line lot) ys → xs ≡ ys
 same_lines lot [] [] small a b h = refl
 same_lines lot [] (y ∷ ys) small a b h = absurd (omega (arith, line_some lot y (flat_map (line lot) ys), ap length h))
 same_lines lot (x ∷ xs) [] small a b h = absurd (omega (arith, line_some lot x (flat_map (line lot) xs), ap length h))
@@ -55,7 +55,7 @@ same_lines lot (x ∷ xs) (y ∷ ys) small a b h =
     let i = same_line lot x y _ _ small a.0 b.0 h in
     ap₂ ◌∷◌ i.0 (same_lines lot xs ys small a.1 b.1 i.1)
 
-pub same_sheets : (lot : ℕ) (xs ys : List SheetEntry) → lot < 2 ^ 64 → All Written xs → All Written ys → page lot xs ≡ page lot ys → xs ≡ ys
+pub same_sheets : (lot : ℕ) (xs ys : List SheetEntry) → lot < 2 ^ 64 → AllByRecursion Written xs → AllByRecursion Written ys → page lot xs ≡ page lot ys → xs ≡ ys
 unfolding page
 same_sheets lot xs ys small a b h = same_lines lot xs ys small a b (append_cancel_left names _ _ h)
 
@@ -121,11 +121,11 @@ module _ (f : ℕ → ℕ) where
       go true e r = (h.0, ltb-true _ _ e, r)
       go false e r = sheet_weaker m (suc x.bidder) (sheet_by f xs) (omega (arith, h.0)) r
 
-  pub sheet_written : (xs : List RegisterEntry) → All (λ x. x.bidder < 2 ^ 32) xs → ((b : ℕ) → f b < 2 ^ 64) → All Written (sheet_by f xs)
+  pub sheet_written : (xs : List RegisterEntry) → AllByRecursion (λ x. x.bidder < 2 ^ 32) xs → ((b : ℕ) → f b < 2 ^ 64) → AllByRecursion Written (sheet_by f xs)
   sheet_written [] h small = tt
   sheet_written (x ∷ xs) h small = go (ltb 0 (f x.bidder)) (sheet_written xs h.1 small)
     where
-      go : (t : Bool) → All Written (sheet_by f xs) → All Written (cond t (record { bidder = x.bidder; amount = f x.bidder } ∷ sheet_by f xs) (sheet_by f xs))
+      go : (t : Bool) → AllByRecursion Written (sheet_by f xs) → AllByRecursion Written (cond t (record { bidder = x.bidder; amount = f x.bidder } ∷ sheet_by f xs) (sheet_by f xs))
       go true r = ((omega (arith, h.0), small x.bidder), r)
       go false r = r
 

@@ -1,6 +1,6 @@
 -- When a list of checks grants, and when a lodging is granted.
 use Rattle.std.proofs.Common.{◌≡◌, ℕ, ◌<◌, Bool, true, false, cond, List, [], ◌∷◌, length, Ok, Err, Result, sym, refl, ◌∙◌, arith}
-use Rattle.std.specs.List.{AllByRecursion as All}
+use Rattle.std.specs.List.{AllByRecursion}
 use Rattle.std.specs.Str.{bytes_eq}
 use Rattle.std.proofs.lemmas.Bool.{eqb-true, eq-eqb, ltb-true, lt-ltb}
 use Rattle.std.proofs.lemmas.Slice.Eq.{bytes_eq-Decides}
@@ -13,7 +13,7 @@ use Rattle.room.proofs.Law.{Kept, checks_by, verdict_by, verdict}
 use Rattle.room.specs.declared.faults.RoomFault.{RoomFault}
 
 abbrev pub Passes : {F : Type 0} → List (Check F) → Type 0
-Passes cs = All (λ c. c.0 ≡ true) cs
+Passes cs = AllByRecursion (λ c. c.0 ≡ true) cs
 
 pub passes : {X F : Type 0} (cs : List (Check F)) (x y : X) → decided cs x ≡ Ok y → Passes cs
 passes [] x y h = tt

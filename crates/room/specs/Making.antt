@@ -1,6 +1,6 @@
 -- Making a room in a place: when it is refused, and what the place holds afterwards.
 use Rattle.std.specs.Prelude.{◌≡◌, ℕ, ◌+◌, ◌^◌, ◌<◌, Bool, true, ◌&&◌, List, [], ◌∷◌, map, length, IfOk, None, Result, MatchResult, nat_le}
-use Rattle.std.specs.List.{AllByRecursion as All}
+use Rattle.std.specs.List.{AllByRecursion}
 use Rattle.fault.specs.Checks.{Check, decided}
 use Rattle.engine.specs.declared.variants.Variant.{Variant}
 use Rattle.room.specs.Sales.{Bytes}
@@ -37,7 +37,7 @@ pub record Made (lot : ℕ) (terms : Bytes) (register : List RegisterEntry) (bef
   pub answers : a ≡ decided (making_checks terms register) tt
   pub leaves : MatchResult a (λ _. (v : Variant) → contents v after ≡ new_room v lot terms register) (λ _. after ≡ before)
   pub lot_fits : lot < 2 ^ 32
-  pub bidders_fit : IfOk a (λ _. All (λ x. x.bidder < 2 ^ 32) register)
+  pub bidders_fit : IfOk a (λ _. AllByRecursion (λ x. x.bidder < 2 ^ 32) register)
 
 -- A fresh place is a closed room of lot 0 without bidders.
 abbrev pub Fresh : RoomState → Type 0

@@ -1,6 +1,6 @@
 // Making of rooms, in a place that the caller holds.
 ghost use Rattle.std.specs.Prelude.{◌≡◌, ◌^◌, ◌<◌, ◌≤◌, true, ◌++◌, map, length, drop};
-ghost use Rattle.std.specs.List.{AllByRecursion as All};
+ghost use Rattle.std.specs.List.{AllByRecursion};
 ghost use Rattle.room.specs.Slots.{new_slot};
 ghost use Rattle.room.specs.Making.{Made, Fresh, lawful_register, rises_from};
 
@@ -67,7 +67,7 @@ fn enroll(slots: &mut [Slot], register: &[RegisterEntry])
 // Whether a register has 1 to 64 entries by strictly rising bidder.
 fn is_lawful(register: &[RegisterEntry]) -> bool
     ensures answer { result ≡ lawful_register register.now }
-    ensures fit { result ≡ true → All (λ x. x.bidder < 2 ^ 32) register.now }
+    ensures fit { result ≡ true → AllByRecursion (λ x. x.bidder < 2 ^ 32) register.now }
 {
     if register.len() < 1 || register.len() > MOST_BIDDERS {
         return false;
@@ -78,7 +78,7 @@ fn is_lawful(register: &[RegisterEntry]) -> bool
 // Whether the bidders rise strictly.
 fn rises(register: &[RegisterEntry]) -> bool
     ensures answer { result ≡ rises_from 0 register.now }
-    ensures fit { result ≡ true → All (λ x. x.bidder < 2 ^ 32) register.now }
+    ensures fit { result ≡ true → AllByRecursion (λ x. x.bidder < 2 ^ 32) register.now }
 {
     let mut least = 0u64;
     for i in 0..register.len() {

@@ -1,6 +1,6 @@
 // Opening: the amounts of all bidders onto the sheet, and the page.
 ghost use Rattle.std.specs.Prelude.{◌≡◌, ◌+◌, ◌^◌, ◌<◌, ◌≤◌, ◌&&◌, [], ◌∷◌, length, if◌then◌else◌, ◌==◌, nat_le, nat_lt, slice_set};
-ghost use Rattle.std.specs.List.{AllByRecursion as All};
+ghost use Rattle.std.specs.List.{AllByRecursion};
 ghost use Rattle.fault.specs.Checks.{decided};
 ghost use Rattle.room.specs.Rooms.{contents};
 ghost use Rattle.room.specs.Calls.{sheet_of, page_of_room};
@@ -66,7 +66,7 @@ fn fill_sheet<E: Engine>(
     requires work { length work.old ≡ 64 }
     ensures count { result ≡ length (sheet_in (E.kind engine.now) lot terms.now slots.now) }
     ensures sheet { sheet.new ≡ written_over (sheet_in (E.kind engine.now) lot terms.now slots.now) sheet.old }
-    ensures fit { (lot < 2 ^ 32) × All (λ x. x.bidder < 2 ^ 32) slots.now }
+    ensures fit { (lot < 2 ^ 32) × AllByRecursion (λ x. x.bidder < 2 ^ 32) slots.now }
 {
     let mut n = 0;
     for i in 0..slots.len() {

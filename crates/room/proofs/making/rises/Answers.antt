@@ -1,5 +1,5 @@
 use Rattle.std.proofs.Common.{◌+◌, ◌<◌, ◌≤◌, get_or, drop, sym, refl, ap, ◌∙◌, subst, arith}
-use Rattle.std.specs.List.{AllByRecursion as All}
+use Rattle.std.specs.List.{AllByRecursion}
 use Rattle.std.proofs.lemmas.List.{take_all}
 use Rattle.room.specs.Making.{rises_from}
 use Rattle.room.proofs.CodeChecks.{false_not_true}
@@ -31,5 +31,5 @@ loop-i-preserved c =
 pub returns : goal.returns
 returns c = record {
   answer = sym (c.loop-i.invariant.0 ∙ rises_all c.loop-i.least c.args.register.now c.loop-i.i (omega arith));
-  fit = λ _. subst (All Fits) (take_all c.loop-i.i c.args.register.now (omega arith)) c.loop-i.invariant.1;
+  fit = λ _. subst (AllByRecursion Fits) (take_all c.loop-i.i c.args.register.now (omega arith)) c.loop-i.invariant.1;
 }

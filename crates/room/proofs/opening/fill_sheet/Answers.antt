@@ -1,5 +1,5 @@
 use Rattle.std.proofs.Common.{◌≡◌, ◌<◌, length, get_or, take, refl, ap, ◌∙◌, subst, arith}
-use Rattle.std.specs.List.{AllByRecursion as All}
+use Rattle.std.specs.List.{AllByRecursion}
 use Rattle.std.proofs.lemmas.List.{take_all}
 use Rattle.room.specs.Rooms.{no_slot}
 use Rattle.room.specs.Opening.{written_over}
@@ -27,5 +27,5 @@ returns g c =
     record {
       count = c.loop-i.invariant.0 ∙ ap (λ z. length (sheet_in v c.args.lot c.args.terms.now z)) e;
       sheet = c.loop-i.invariant.1 ∙ ap (λ z. written_over (sheet_in v c.args.lot c.args.terms.now z) c.args.sheet.now) e;
-      fit = (c.ranges.lot.fits, subst (All Fits) e c.loop-i.invariant.2);
+      fit = (c.ranges.lot.fits, subst (AllByRecursion Fits) e c.loop-i.invariant.2);
     }
