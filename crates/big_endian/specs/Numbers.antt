@@ -1,4 +1,4 @@
--- Numbers as bytes, the highest byte first. The number that bytes write is `number 256` of the library.
+-- Numbers as bytes, the highest byte first. The number that bytes write is `number_from_digits 256` of the library.
 use Rattle.std.specs.Prelude.{ℕ, zero, suc, ◌/◌, ◌%◌, List, [], ◌∷◌, ◌++◌}
 
 -- The last k bytes of a number.

@@ -1,5 +1,5 @@
 -- Blocks in words, and what the steps of a round do to them: the terms of the contracts between the functions of this crate.
-use Rattle.std.specs.Prelude.{◌≡◌, ℕ, ◌+◌, ◌*◌, ◌/◌, ◌%◌, ◌<◌, ◌≤◌, Bool, false, List, [], ◌∷◌, get_or, slice_index, slice_index_or}
+use Rattle.std.specs.Prelude.{◌≡◌, ℕ, ◌+◌, ◌*◌, ◌/◌, ◌%◌, ◌<◌, ◌≤◌, Bool, false, List, [], ◌∷◌, slice_index, slice_index_or}
 use Rattle.engine.specs.Bits.{bit, one}
 use Rattle.engine.specs.Spongent.{table}
 use Rattle.circuit.specs.declared.planes.Planes.{Planes}
@@ -25,7 +25,7 @@ of_block at p i = at p.a i ∷ at p.b i ∷ at p.c i ∷ at p.d i ∷ []
 
 -- Bit k of word t.
 abbrev pub word_bit : List Bits → ℕ → ℕ → Bool
-word_bit ws t k = get_or ws t (λ _. false) k
+word_bit ws t k = slice_index_or ws t (λ _. false) k
 
 -- Bit t of the table's entry at the half byte of the bits a, b, c and d, lowest first.
 abbrev pub entry : Bool → Bool → Bool → Bool → ℕ → Bool

@@ -6,23 +6,25 @@ ghost use Rattle.engine.specs.declared.variants.Variant.{Variant as Kind};
 use crate::faults::EngineFault;
 use crate::variants::Variant;
 
-// Each call borrows the engine by `&`, which has one value, `now`, from the call to the return: no call changes the engine.
 pub trait Engine {
     // The variant that the engine belongs to.
     ghost kind: { Self → Kind };
 
     fn variant(&self) -> Variant
-        ensures answer { result ≡ kind self.now };
+        ensures answer { result ≡ kind self.now }
+        ensures engine { self.exit.now ≡ self.entry.now };
 
     // Replaces a block by the permutation of it. A place of another length is refused and left as it was.
     fn one(&self, block: &mut [u8]) -> Result<(), EngineFault>
         ensures answer { result ≡ one_answer (kind self.now) block.old }
-        ensures block { block.new ≡ one_after (kind self.now) block.old };
+        ensures block { block.new ≡ one_after (kind self.now) block.old }
+        ensures engine { self.exit.now ≡ self.entry.now };
 
     // Replaces each of four neighbouring blocks by the permutation of it. A place of another length is refused and left as it was.
     fn four(&self, blocks: &mut [u8]) -> Result<(), EngineFault>
         ensures answer { result ≡ four_answer (kind self.now) blocks.old }
         ensures blocks { blocks.new ≡ four_after (kind self.now) blocks.old }
+        ensures engine { self.exit.now ≡ self.entry.now }
     {
         let n = self.variant().block_bytes();
         if blocks.len() != 4 * n {

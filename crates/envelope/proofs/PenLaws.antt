@@ -64,7 +64,7 @@ counts (more {p = p} {q = q} {a = Err f} {rest = answers} t rest) k l =
     let n : q.given ≡ p.given = ap (λ x. x.given) t.pen_after in
     counts rest k l ∙ omega arith
 
--- AllByRecursion heads have what the pen has.
+-- All heads have what the pen has.
 abbrev Of : Pen → Head → Type 0
 Of p h = (h.lot ≡ p.lot) × (bytes_of_terms h.terms ≡ bytes_of_terms p.terms)
 

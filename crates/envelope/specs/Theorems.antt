@@ -19,7 +19,7 @@ pub record LawfulBid (amount : ℕ) (note : List ℕ) : Type 0 where
   pub amount_within : amount ≤ most_cents
   pub note_within : length note ≤ most_note_bytes
 
--- AllByRecursion that sealing a bid asks for.
+-- All that sealing a bid asks for.
 pub record LawfulSealing (v : Variant) (key : List ℕ) (amount : ℕ) (note place : List ℕ) : Type 0 where
   pub key_length : length key ≡ 16
   pub place_length : length place ≡ envelope_size v

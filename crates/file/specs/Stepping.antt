@@ -14,7 +14,7 @@ Steps (passed next) before after = Moves before after
 Steps (said i next) before after = Moves before after
 
 -- A reader that gave a line goes on in the same text, behind that line.
-abbrev pub Goes_on : Option (Result Line FileFault) → Reader → Reader → Type 0
-Goes_on None before after = Unit {0}
-Goes_on (Some (Err f)) before after = Unit {0}
-Goes_on (Some (Ok l)) before after = Moves before after
+abbrev pub GoesOn : Option (Result Line FileFault) → Reader → Reader → Type 0
+GoesOn None before after = Unit {0}
+GoesOn (Some (Err f)) before after = Unit {0}
+GoesOn (Some (Ok l)) before after = Moves before after

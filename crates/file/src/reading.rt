@@ -5,7 +5,7 @@ ghost use Rattle.file.specs.Form.{after_verdict, items};
 ghost use Rattle.file.specs.Lines.{lines};
 ghost use Rattle.file.specs.Read.{left_of, given, first_of, rest_of};
 ghost use Rattle.file.specs.Said.{verdict_of};
-ghost use Rattle.file.specs.Stepping.{Moves, Steps, Goes_on};
+ghost use Rattle.file.specs.Stepping.{Moves, Steps, GoesOn};
 
 use crate::faults::FileFault;
 use crate::fields::find;
@@ -83,7 +83,7 @@ impl<'a> Reader<'a> {
     pub fn next(&mut self) -> Option<Result<Line<'a>, FileFault>>
         ensures gives { given result ≡ first_of (left_of self.old) }
         ensures leaves { left_of self.new ≡ rest_of (left_of self.old) }
-        ensures goes_on { Goes_on result self.old self.new }
+        ensures goes_on { GoesOn result self.old self.new }
     {
         if self.long {
             return Some(Err(FileFault::TooLong));

@@ -1,7 +1,7 @@
 -- Facts about a list with one more entry in it: its length, its entries, and that it rises.
 use Rattle.std.proofs.Common.{◌≡◌, ℕ, zero, suc, ◌+◌, ◌-◌, ◌<◌, ◌≤◌, true, false, ◌⊎◌, List, [], ◌∷◌, length, get_or, Ordering, Less, Equal, Greater, sym, refl, ap, ◌∙◌, inl, inr, ⊎_elim, arith}
 use Rattle.std.specs.Ordering.{is_eq, is_lt}
-use Rattle.std.specs.List.{ContainsAt as Has}
+use Rattle.std.specs.List.{ContainsAt}
 use Rattle.std.proofs.lemmas.List.Edits.{length-insert as length_put_in, get_or-insert_below, get_or-insert_at, get_or-insert_above}
 use Rattle.std.proofs.lemmas.List.Sums.{prefix_len-le-length}
 use Rattle.std.proofs.lemmas.Bool.{cases_order, or_parts, true≢false}
@@ -56,7 +56,7 @@ module _ {X : Type 0} (order : X → X → Ordering) (e : X) (xs : List X) where
       let s : k ≡ (k - 1) + 1 = omega arith in
       ap (λ z. get_or (inserted order e xs) z d) s ∙ get_or-insert_above xs (ahead order e xs) e d (k - 1) (omega arith) ahead_le
 
-  kept : (x : X) → Has xs x → Has (inserted order e xs) x
+  kept : (x : X) → ContainsAt xs x → ContainsAt (inserted order e xs) x
   kept x (k, l, is) = let n = length_inserted in ⊎_elim
       (λ (h : k ≡ ahead order e xs). (k + 1, omega arith, λ d. above (k + 1) d (omega arith) ∙ ap (λ z. get_or xs z d) (omega arith) ∙ is d))
       (⊎_elim
@@ -64,10 +64,10 @@ module _ {X : Type 0} (order : X → X → Ordering) (e : X) (xs : List X) where
       (λ (h : ahead order e xs < k). (k + 1, omega arith, λ d. above (k + 1) d (omega arith) ∙ ap (λ z. get_or xs z d) (omega arith) ∙ is d)))
       (cases_order k (ahead order e xs))
 
-  there : Has (inserted order e xs) e
+  there : ContainsAt (inserted order e xs) e
   there = let n = length_inserted in let m = ahead_le in (ahead order e xs, omega arith, λ d. at_it (ahead order e xs) d refl)
 
-  no_others : (x : X) → Has (inserted order e xs) x → Has xs x ⊎ (e ≡ x)
+  no_others : (x : X) → ContainsAt (inserted order e xs) x → ContainsAt xs x ⊎ (e ≡ x)
   no_others x (k, l, is) = let n = length_inserted in ⊎_elim
       (λ (h : k ≡ ahead order e xs). inr (sym (at_it k e h) ∙ is e))
       (⊎_elim

@@ -1,5 +1,5 @@
 -- Worked examples of the definitions, all in one table. Numbers that begin with 0x are hexadecimal.
-use Rattle.std.specs.Prelude.{◌≡◌, ℕ, ◌≤◌, true, false, List, [], ◌∷◌, ◌++◌, map, length, replicate, codes, slice_index, slice_index_or}
+use Rattle.std.specs.Prelude.{◌≡◌, ℕ, ◌≤◌, true, false, List, [], ◌∷◌, ◌++◌, map, length, replicate, codes, slice_index}
 use Rattle.engine.specs.Bits.{bits, block}
 use Rattle.engine.specs.Spongent.{substitute, counter, place}
 use Rattle.engine.specs.Permutation.{block_size}
@@ -30,8 +30,8 @@ pub record WorkedExamples : Type 0 where
   pub counters_after_75 : (counter 0x75 1 ≡ 0x6A) × (counter 0x75 2 ≡ 0x54) × (counter 0x75 3 ≡ 0x29)
   pub counters_after_45 : (counter 0x45 1 ≡ 0x0B) × (counter 0x45 2 ≡ 0x16)
   pub bits_of_160_move : (place 160 1 ≡ 40) × (place 160 4 ≡ 1) × (place 160 158 ≡ 119) × (place 160 159 ≡ 159)
-  pub phi1_of_a_dumbo_block_with_only_x0_01_ends_in_08 : slice_index_or (phi1 Dumbo (0x01 ∷ replicate 19 0)) 19 0 ≡ 0x08
-  pub phi1_of_a_jumbo_block_with_only_x0_80_ends_in_01 : slice_index_or (phi1 Jumbo (0x80 ∷ replicate 21 0)) 21 0 ≡ 0x01
+  pub phi1_of_a_dumbo_block_with_only_x0_01_ends_in_08 : slice_index (phi1 Dumbo (0x01 ∷ replicate 19 0)) 19 ≡ 0x08
+  pub phi1_of_a_jumbo_block_with_only_x0_80_ends_in_01 : slice_index (phi1 Jumbo (0x80 ∷ replicate 21 0)) 21 ≡ 0x01
   pub phi1_of_a_delirium_block_with_only_x13_80_has_80_at_12_and_ends_in_00 :
       (slice_index (phi1 Delirium (replicate 13 0 ++ (0x80 ∷ replicate 11 0))) 12 ≡ 0x80) × (slice_index (phi1 Delirium (replicate 13 0 ++ (0x80 ∷ replicate 11 0))) 24 ≡ 0x00)
   pub seven_bytes_of_associated_data_have_one_part : (nonce associated : Bytes) → length nonce ≡ 12 → length associated ≡ 7 → dumbo_parts nonce associated ≡ 1

@@ -30,4 +30,5 @@ returns g c =
       blocks =
           done_all (permutation v) (block_size v) 4 c.args.blocks.now c.loop-i.blocks all (rw (← wide, ← four) c.loop-i.invariant)
           ∙ sym (replaced_granted (4 * block_size v) (each (permutation v) (block_size v) 4) c.args.blocks.now all);
+      engine = refl;
     }
