@@ -1,7 +1,7 @@
 // Heads: the twelve bytes that open an envelope. They name lot, bidder and sequence, and serve as the nonce.
 ghost use Rattle.std.specs.Prelude.{◌≡◌, [], ◌∷◌, length};
 ghost use Rattle.std.specs.Int.Digits.{number_from_digits as number_in};
-ghost use Rattle.envelope.specs.Heads.{head as head_of};
+ghost use Rattle.envelope.specs.Heads.{head as head_for};
 ghost use Rattle.envelope.specs.Parts.{parts_answer, parts_seen};
 
 use crate::terms::Terms;
@@ -20,7 +20,7 @@ pub struct Head {
 // Writes the head of a lot, a bidder and a sequence.
 pub(crate) fn put_head(lot: u32, bidder: u32, sequence: u32, place: &mut [u8])
     requires { length place.old ≡ 12 }
-    ensures { place.new ≡ head_of lot bidder sequence }
+    ensures { place.new ≡ head_for lot bidder sequence }
 {
     put_number(lot as u128, &mut place[0..4]);
     put_number(bidder as u128, &mut place[4..8]);
@@ -29,7 +29,7 @@ pub(crate) fn put_head(lot: u32, bidder: u32, sequence: u32, place: &mut [u8])
 
 // The head of a lot, a bidder and a sequence. It is bytes, and no `Head`: those come from pens alone.
 pub fn head_of(lot: u32, bidder: u32, sequence: u32) -> [u8; HEAD_BYTES]
-    ensures { result ≡ head_of lot bidder sequence }
+    ensures { result ≡ head_for lot bidder sequence }
 {
     let mut bytes = [0u8; HEAD_BYTES];
     put_head(lot, bidder, sequence, &mut bytes);
