@@ -4,7 +4,7 @@ use Rattle.std.specs.Int.Digits.{AllBelowBase}
 use Rattle.std.specs.Str.{bytes_eq}
 use Rattle.std.proofs.lemmas.Bool.{eq-eqb, eqb-true, lt-ltb, le-ltb}
 use Rattle.std.proofs.lemmas.List.{take_at}
-use Rattle.fault.specs.Checks.{Check, decided}
+use Rattle.fault.specs.Checks.{Check, decided, left}
 use Rattle.engine.specs.declared.variants.Variant.{Variant}
 use Rattle.cipher.specs.declared.faults.CipherFault.TheVariants.{WrongTag as CipherWrongTag}
 use Rattle.envelope.specs.Heads.{lot_of, bidder_of, sequence_of}
@@ -103,12 +103,12 @@ module _ (v : Variant) (lot : ℕ) (terms : Bytes) (xs : List Slot) (e : Bytes) 
         unfolding lodging_checks
         none_fails h = rw (eq-eqb _ _ read.0, eq-eqb _ _ read.1, at_known, lt-ltb _ _ at_up, at_right ∙ h)
 
-        pub way_tag : (f : RoomFault) → ◌≡◌ {A = Result (Unit {0}) RoomFault} (Err f) (decided ((bytes_eq (tag_part e) (right_tag v key terms e), WrongTag b s CipherWrongTag) ∷ []) tt) → Lodged v lot terms xs e (Err f) xs
+        way_tag : (f : RoomFault) → ◌≡◌ {A = Result (Unit {0}) RoomFault} (Err f) (decided ((bytes_eq (tag_part e) (right_tag v key terms e), WrongTag b s CipherWrongTag) ∷ []) tt) → Lodged v lot terms xs e (Err f) xs
         way_tag f h =
             let p = one_failed _ _ f h in
             subst (λ g. Lodged v lot terms xs e (Err g) xs) (ap₂ (λ b s. WrongTag b s CipherWrongTag) (sym read.2) (sym read.3) ∙ sym p.1) (refused _ (fails_tag p.0))
 
-        pub way_granted : AllBelowBase 256 e → ◌≡◌ {A = Result (Unit {0}) RoomFault} (Ok tt) (decided ((bytes_eq (tag_part e) (right_tag v key terms e), WrongTag b s CipherWrongTag) ∷ []) tt)
+        way_granted : AllBelowBase 256 e → ◌≡◌ {A = Result (Unit {0}) RoomFault} (Ok tt) (decided ((bytes_eq (tag_part e) (right_tag v key terms e), WrongTag b s CipherWrongTag) ∷ []) tt)
             → (y : Slot) → y ≡ filled (get_or xs i no_slot) s e → Lodged v lot terms xs e (Ok s) (set xs i y)
         way_granted under h y f =
             let none = none_fails (one_passed _ _ h) in
@@ -118,6 +118,21 @@ module _ (v : Variant) (lot : ℕ) (terms : Bytes) (xs : List Slot) (e : Bytes) 
               answers = ap (λ n. Ok n) read.3 ∙ sym none;
               leaves = rw none (ap (λ hs. holding hs before) (put_at v lot no_slot e xs i y found.0 at_here at_first k));
             }
+
+        -- By the test of the tag.
+        by_tag : AllBelowBase 256 e → (t : Bool) → t ≡ bytes_eq (tag_part e) (right_tag v key terms e) → (a : Answer) (ys : List Slot)
+            → a ≡ decided ((t, WrongTag b s CipherWrongTag) ∷ []) s → ys ≡ left a (set xs i (filled (get_or xs i no_slot) s e)) xs → Lodged v lot terms xs e a ys
+        by_tag under true q a ys h k =
+            let g : ys ≡ set xs i (filled (get_or xs i no_slot) s e) = k ∙ ap (λ z. left z (set xs i (filled (get_or xs i no_slot) s e)) xs) h in
+            rw (h, g) (way_granted under (ap (λ z. decided ((z, WrongTag b s CipherWrongTag) ∷ []) tt) q) _ refl)
+        by_tag under false q a ys h k =
+            let g : ys ≡ xs = k ∙ ap (λ z. left z (set xs i (filled (get_or xs i no_slot) s e)) xs) h in
+            rw (h, g) (way_tag _ (ap (λ z. decided ((z, WrongTag b s CipherWrongTag) ∷ []) tt) q))
+
+        pub way_kept : AllBelowBase 256 e → (a : Answer) (ys : List Slot)
+            → a ≡ decided ((bytes_eq (tag_part e) (right_tag v key terms e), WrongTag b s CipherWrongTag) ∷ []) s
+            → ys ≡ left a (set xs i (filled (get_or xs i no_slot) s e)) xs → Lodged v lot terms xs e a ys
+        way_kept under = by_tag under (bytes_eq (tag_part e) (right_tag v key terms e)) refl
 
 -- A lodging upon a room, by its phase.
 module _ (v : Variant) (lot : ℕ) (terms : Bytes) (xs : List Slot) (e : Bytes) where

@@ -1,12 +1,13 @@
 // Lodging of envelopes, asking and closing.
-ghost use Rattle.std.specs.Prelude.{◌≡◌, ◌≤◌, [], ◌∷◌, length, take, Err};
+ghost use Rattle.std.specs.Prelude.{◌≡◌, ◌<◌, ◌≤◌, [], ◌∷◌, length, take, Err, slice_index_or, slice_set};
 ghost use Rattle.std.specs.Str.{bytes_eq};
-ghost use Rattle.fault.specs.Checks.{decided};
+ghost use Rattle.fault.specs.Checks.{decided, left};
 ghost use Rattle.engine.specs.declared.variants.Variant.{Variant as Kind};
 ghost use Rattle.cipher.specs.declared.faults.CipherFault.TheVariants.{WrongTag as CipherWrongTag};
 ghost use Rattle.envelope.specs.Heads.{bidder_of, sequence_of};
 ghost use Rattle.envelope.specs.Envelopes.{envelope_size, tag_part, right_tag};
-ghost use Rattle.room.specs.Slots.{head_checks, Lodged};
+ghost use Rattle.room.specs.Rooms.{no_slot};
+ghost use Rattle.room.specs.Slots.{filled as filled_by, head_checks, Lodged};
 ghost use Rattle.room.specs.Calls.{Lodging, Asking, Closing, Met, without_number};
 ghost use Rattle.room.specs.declared.faults.RoomFault.TheVariants.{WrongTag as RoomWrongTag};
 
@@ -95,6 +96,25 @@ fn lodge_into<E: Engine>(
     if sequence <= last {
         return Err(RoomFault::SequenceNotAbove);
     }
+    keep(engine, terms, slots, i, envelope, bidder, sequence)
+}
+
+// Keeps an envelope in its bidder's slot, where its tag is right.
+fn keep<E: Engine>(
+    engine: &E,
+    terms: &[u8],
+    slots: &mut [Slot],
+    i: usize,
+    envelope: &[u8],
+    bidder: u32,
+    sequence: u32,
+) -> Result<u32, RoomFault>
+    requires terms { length terms.now ≤ 64 }
+    requires within { i < length slots.old }
+    requires envelope { length envelope.now ≡ envelope_size (E.kind engine.now) }
+    ensures answer { result ≡ decided ((bytes_eq (tag_part envelope.now) (right_tag (E.kind engine.now) (slice_index_or slots.old i no_slot).key terms.now envelope.now), RoomWrongTag bidder sequence CipherWrongTag) ∷ []) sequence }
+    ensures slots { slots.new ≡ left result (slice_set slots.old i (filled_by (slice_index_or slots.old i no_slot) sequence envelope.now)) slots.old }
+{
     let old = slots[i];
     check_tag(engine, &old.key, terms, envelope, bidder, sequence)?;
     slots[i] = filled(old, sequence, envelope);
