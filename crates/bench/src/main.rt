@@ -44,13 +44,8 @@ fn run(rt: &HostRuntime) -> anyhow::Result<()> {
     let _program = words.next();
     match words.next() {
         None => agreements(rt),
-        Some(word) => {
-            if word.as_str() == "measure" {
-                measure(rt)
-            } else {
-                Err(anyhow!("the argument is `measure`, or there is none"))
-            }
-        }
+        Some(word) if word.as_str() == "measure" => measure(rt),
+        Some(_) => Err(anyhow!("the argument is `measure`, or there is none")),
     }
 }
 

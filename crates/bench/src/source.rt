@@ -19,8 +19,8 @@ impl Source {
     }
 
     pub fn fill(&mut self, place: &mut [u8]) {
-        for i in 0..place.len() {
-            place[i] = self.next();
+        for byte in place.iter_mut() {
+            *byte = self.next();
         }
     }
 }

@@ -3,7 +3,8 @@
 
 use cipher::check;
 use engine::{Plain, Variant};
-use envelope::{EnvelopeFault, Pen, amount_in, parts_of, seal_bid};
+use envelope::{EnvelopeFault, HEAD_BYTES, LETTER_BYTES, Pen, amount_in, parts_of, seal_bid};
+use fault::Fault;
 use std::io;
 
 const ENGINE: Plain = Plain {
@@ -19,75 +20,98 @@ const ENVELOPE_BYTES: usize = 84;
 fn main(rt: HostRuntime) -> io::Result<()> {
     println!(rt; "lot,bidder,sequence,tag,amount")?;
     match Pen::new(17, TERMS) {
-        Err(f) => refused(rt, f),
-        Ok(mut pen) => all_bids(rt, &mut pen),
+        Err(f) => refused(&rt, f),
+        Ok(mut pen) => all_bids(&rt, &mut pen),
     }
+}
+
+// What is sealed for a bidder, and the size of the place lent for its envelope.
+#[derive(Clone, Copy)]
+struct Bid<'a> {
+    bidder: u32,
+    key: &'a [u8],
+    amount: u64,
+    note: &'a [u8],
+    size: usize,
 }
 
 // Three bids that are granted, and four that are refused.
-fn all_bids(rt: HostRuntime, pen: &mut Pen) -> io::Result<()> {
-    one_bid(
-        rt,
-        pen,
-        3,
-        &KEY,
-        250000,
-        b"pickup on Friday",
-        ENVELOPE_BYTES,
-    )?;
-    one_bid(rt, pen, 8, &KEY, 999_999_999_999, b"", ENVELOPE_BYTES)?;
-    one_bid(rt, pen, 3, &KEY, 0, b"withdrawn", ENVELOPE_BYTES)?;
-    one_bid(rt, pen, 5, &KEY[0..15], 250000, b"", ENVELOPE_BYTES)?;
-    one_bid(rt, pen, 5, &KEY, 250000, b"", ENVELOPE_BYTES - 1)?;
-    one_bid(rt, pen, 5, &KEY, 250000, &[65; 56], ENVELOPE_BYTES)?;
-    one_bid(rt, pen, 5, &KEY, 1_000_000_000_000, b"", ENVELOPE_BYTES)
+fn all_bids(rt: &HostRuntime, pen: &mut Pen) -> io::Result<()> {
+    let usual = Bid {
+        bidder: 5,
+        key: &KEY,
+        amount: 250_000,
+        note: b"",
+        size: ENVELOPE_BYTES,
+    };
+    let bids = [
+        Bid {
+            bidder: 3,
+            note: b"pickup on Friday",
+            ..usual
+        },
+        Bid {
+            bidder: 8,
+            amount: 999_999_999_999,
+            ..usual
+        },
+        Bid {
+            bidder: 3,
+            amount: 0,
+            note: b"withdrawn",
+            ..usual
+        },
+        Bid {
+            key: &KEY[0..15],
+            ..usual
+        },
+        Bid {
+            size: ENVELOPE_BYTES - 1,
+            ..usual
+        },
+        Bid {
+            note: &[65; 56],
+            ..usual
+        },
+        Bid {
+            amount: 1_000_000_000_000,
+            ..usual
+        },
+    ];
+    for bid in &bids {
+        one_bid(rt, pen, bid)?;
+    }
+    Ok(())
 }
 
 // Takes a head, seals a bid with it, and shows the envelope.
-fn one_bid(
-    rt: HostRuntime,
-    pen: &mut Pen,
-    bidder: u32,
-    key: &[u8],
-    amount: u64,
-    note: &[u8],
-    size: usize,
-) -> io::Result<()> {
-    let mut place = [0u8; ENVELOPE_BYTES];
-    match pen.take(bidder) {
+fn one_bid(rt: &HostRuntime, pen: &mut Pen, bid: &Bid) -> io::Result<()> {
+    let mut envelope = [0u8; ENVELOPE_BYTES];
+    let place = &mut envelope[..bid.size.min(ENVELOPE_BYTES)];
+    let sealed = match pen.take(bid.bidder) {
+        Err(f) => Err(f),
+        Ok(head) => seal_bid(&ENGINE, bid.key, head, bid.amount, bid.note, place),
+    };
+    match sealed {
         Err(f) => refused(rt, f),
-        Ok(taken) => match seal_bid(
-            &ENGINE,
-            key,
-            taken,
-            amount,
-            note,
-            &mut place[0..size.min(ENVELOPE_BYTES)],
-        ) {
-            Err(f) => refused(rt, f),
-            Ok(()) => show(rt, key, &place),
-        },
+        Ok(()) => show(rt, bid.key, &envelope),
     }
 }
 
-fn refused(rt: HostRuntime, f: EnvelopeFault) -> io::Result<()> {
+fn refused(rt: &HostRuntime, f: EnvelopeFault) -> io::Result<()> {
     println!(rt; "refused with {}", f.number())
 }
 
 // Reads an envelope: its head, its tag and its letter.
-fn show(rt: HostRuntime, key: &[u8], envelope: &[u8; ENVELOPE_BYTES]) -> io::Result<()> {
+fn show(rt: &HostRuntime, key: &[u8], envelope: &[u8; ENVELOPE_BYTES]) -> io::Result<()> {
     if let Some(parts) = parts_of(envelope) {
-        print!(rt; "{},{},{},", parts.lot, parts.bidder, parts.sequence)?;
+        let head = parts.head;
+        print!(rt; "{},{},{},", head.lot, head.bidder, head.sequence)?;
     }
-    let mut letter = [0u8; 64];
-    match check(
-        &ENGINE,
-        key,
-        &envelope[0..12],
-        TERMS,
-        &envelope[12..76],
-        &envelope[76..84],
-    ) {
+    let (nonce, rest) = envelope.split_at(HEAD_BYTES);
+    let (sealed, tag) = rest.split_at(LETTER_BYTES);
+    let mut letter = [0u8; LETTER_BYTES];
+    match check(&ENGINE, key, nonce, TERMS, sealed, tag) {
         Err(f) => println!(rt; "wrong,{}", f.number()),
         Ok(text) => match text.open(&ENGINE, &mut letter) {
             Err((f, again)) => {

@@ -1,12 +1,11 @@
 -- Bytes and the numbers that they write, there and back.
-use Rattle.std.proofs.Common.{◌≡◌, ℕ, zero, suc, ◌+◌, ◌-◌, ◌*◌, ◌/◌, ◌%◌, ◌^◌, ◌<◌, ◌≤◌, min, List, [], ◌∷◌, ◌++◌, length, get_or, take, drop, set, sym, refl, ap, ◌∙◌, ⊎_elim, add-one, arith}
+use Rattle.std.proofs.Common.{◌≡◌, ℕ, zero, suc, ◌+◌, ◌-◌, ◌*◌, ◌/◌, ◌%◌, ◌^◌, ◌<◌, ◌≤◌, min, List, [], ◌∷◌, ◌++◌, length, get_or, take, drop, set, sym, refl, ap, ◌∙◌, ap₂, add-one, arith}
 use native.Mathlib.Numerals.{unary_clauses}
 use native.Mathlib.Nat.{pow-le-pow_right}
 use Rattle.std.specs.Int.Digits.{number_from_digits, AllBelowBase}
 use Rattle.std.proofs.lemmas.Int.Digits.{number_more}
 use Rattle.std.proofs.ByRecursion.{All-get_or, All-take}
-use Rattle.std.proofs.lemmas.List.{take_all, take_more, nil_from_length, length-take-le, drop-set, drop_all, append-nil, append_assoc, length-append}
-use Rattle.std.proofs.lemmas.Bool.{cases_lt}
+use Rattle.std.proofs.lemmas.List.{get_or_default, take_min, take_all, take_more, nil_from_length, length-take, length-take-le, drop-set, append_assoc, length-append}
 use Rattle.big_endian.specs.Numbers.{bytes_of}
 
 -- The bytes of the number that bytes write are those bytes.
@@ -25,12 +24,17 @@ bytes_back (suc k) bs e u =
     ap (λ z. bytes_of k z ++ (number_from_digits 256 bs % 256 ∷ [])) q ∙ ap (λ z. bytes_of k (number_from_digits 256 (take k bs)) ++ (z ∷ [])) r
     ∙ ap (λ z. z ++ (b ∷ [])) ih ∙ sym (take_more bs k 0 lt) ∙ whole
 
+-- one byte more
+pub one_more : (bs : List ℕ) (k n b : ℕ) → k < length bs → b ≡ get_or bs k b → n ≡ number_from_digits 256 (take k bs) → n * 256 + b ≡ number_from_digits 256 (take (k + 1) bs)
+one_more bs k n b h is e = ap₂ (λ m d. m * 256 + d) e (is ∙ get_or_default bs k b 0 h) ∙ sym (number_more 256 bs k h)
+
 pub grow : (n b i : ℕ) → n < 256 ^ i → b < 256 → n * 256 + b < 256 ^ (i + 1)
 grow n b i h l = let e : 256 ^ (i + 1) ≡ 256 ^ i * 256 = rw add-one (simp unary_clauses) in omega arith
 
-pub bounded : (n i : ℕ) → n < 256 ^ i → i < 16 → n < 256 ^ 15
-bounded n i h l =
-    let p : 256 ^ i ≤ 256 ^ 15 = (let a : i ≤ 15 = omega arith in let z : 0 < 256 = omega arith in pow-le-pow_right z a) in
+-- a number of fewer than sixteen bytes, with room for one more
+pub bounded : (bytes : List ℕ) (n i : ℕ) → i < length (take 16 bytes) → n < 256 ^ i → n < 256 ^ 15
+bounded bytes n i l h =
+    let p : 256 ^ i ≤ 256 ^ 15 = (let a : i ≤ 15 = omega (arith, length-take 16 bytes) in let z : 0 < 256 = omega arith in pow-le-pow_right z a) in
     omega arith
 
 put_suc : (j rest : ℕ) (out : List ℕ) → j < length out → bytes_of (suc j) rest ++ drop (j + 1) out ≡ bytes_of j (rest / 256) ++ drop j (set out j (rest % 256))
@@ -46,18 +50,9 @@ put_more i rest out whole h l e =
     let b : j + 1 ≡ i = omega arith in
     sym (put_suc j rest out (omega arith)) ∙ ap (λ z. bytes_of z rest ++ drop (j + 1) out) a ∙ ap (λ z. bytes_of i rest ++ drop z out) b ∙ e
 
-pub put_none : (n : ℕ) (out : List ℕ) → bytes_of (length out) n ++ drop (length out) out ≡ bytes_of (length out) n
-unfolding bytes_of
-put_none n out = ap (λ z. bytes_of (length out) n ++ z) (drop_all (length out) out (omega arith)) ∙ append-nil (bytes_of (length out) n)
-
-pub put_all : (i n rest : ℕ) (out whole : List ℕ) → i ≡ 0 → bytes_of i rest ++ drop i out ≡ whole → out ≡ whole
-unfolding bytes_of
-put_all i n rest out whole z e = sym (ap (λ j. bytes_of j rest ++ drop j out) z) ∙ e
-
 -- What is past the end does not count.
 pub take_cut : (k n : ℕ) (xs : List ℕ) → k ≡ min (length xs) n → take k xs ≡ take n xs
-take_cut k n xs e =
-    ⊎_elim (λ h. take_all k xs (omega arith) ∙ sym (take_all n xs (omega arith))) (λ h. let same : k ≡ n = omega arith in ap (λ m. take m xs) same) (cases_lt (length xs) n)
+take_cut k n xs e = let same : k ≡ min n (length xs) = omega arith in ap (λ m. take m xs) same ∙ take_min n xs
 
 pub bytes_of_length : (k n : ℕ) → length (bytes_of k n) ≡ k
 unfolding bytes_of

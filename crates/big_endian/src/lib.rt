@@ -12,18 +12,20 @@ const NUMBER_BYTES: usize = 16;
 pub fn number_of(bytes: &[u8]) -> u128
     ensures { result ≡ number_from_digits 256 (take 16 bytes.now) }
 {
-    let mut n: u128 = 0;
-    for i in 0..bytes.len().min(NUMBER_BYTES) {
-        n = n * 256 + bytes[i] as u128;
+    let mut n = 0;
+    for b in bytes.iter().take(NUMBER_BYTES) {
+        n = n * 256 + u128::from(*b);
     }
     n
 }
 
 // Writes the last bytes of a number, as many as there are places.
+#[tactic(auto, using(crate::proofs::Laws::put_more), unfolding(crate::specs::Numbers::bytes_of))]
 pub fn put_number(n: u128, out: &mut [u8])
     ensures { out.new ≡ bytes_of (length out.old) n }
 {
     let mut rest = n;
+    // Indexed, since of a slice that `iter_mut().rev()` has lent nothing is known afterwards but its length.
     for i in (0..out.len()).rev() {
         out[i] = (rest % 256) as u8;
         rest /= 256;

@@ -1,11 +1,11 @@
 -- The laws of the cipher, for the layers above.
-use Rattle.std.proofs.Common.{◌≡◌, ℕ, zero, suc, ◌≤◌, Bool, true, false, cond, ◌↔◌, List, [], ◌∷◌, length, Ok, Err, Result, sym, refl, ap, ◌∙◌, ap₂, arith, lit≤, eq-eqb}
+use Rattle.std.proofs.Common.{◌≡◌, ℕ, zero, suc, ◌≤◌, Bool, true, false, cond, ◌↔◌, List, [], ◌∷◌, length, take, Ok, Err, Result, sym, refl, ap, ◌∙◌, ap₂, arith, lit≤, eq-eqb}
 use lib.Bits.{bit_xor, xor_assoc, xor_self, xor_zero_r}
 use Rattle.std.specs.Int.Digits.{number_from_digits, AllBelowBase}
 use Rattle.std.specs.Str.{bytes_eq}
 use Rattle.std.proofs.lemmas.Slice.Eq.{bytes_eq-Decides}
 use Rattle.std.proofs.lemmas.Bool.{le-leb}
-use Rattle.std.proofs.lemmas.List.{length-take-le}
+use Rattle.std.proofs.lemmas.List.{length-take-le, take-take}
 use Rattle.fault.specs.Checks.{granted}
 use Rattle.big_endian.proofs.Laws.{bytes_back}
 use Rattle.engine.specs.Permutation.{block_size}
@@ -13,6 +13,7 @@ use Rattle.engine.specs.declared.variants.Variant.{Variant}
 use Rattle.engine.specs.declared.variants.Variant.TheVariants.{Dumbo, Jumbo, Delirium}
 use Rattle.cipher.specs.Blocks.{padded, part, parts, xored, stream, summed}
 use Rattle.cipher.specs.Masks.{first_mask}
+use Rattle.cipher.specs.Groups.{held}
 use Rattle.cipher.specs.Mode.{tag_size, streamed, sealed_text, opened_text, enciphered, key_block, absorbed, associated_sum, tag_sum, tag_from, tag}
 use Rattle.cipher.specs.Calls.{CheckedText, check_answer, opened}
 use Rattle.cipher.specs.Theorems.{LawfulSizes, CipherLaws}
@@ -67,6 +68,11 @@ tag_fits : (v : Variant) → tag_size v ≤ block_size v
 tag_fits Dumbo = lit≤ tt
 tag_fits Jumbo = lit≤ tt
 tag_fits Delirium = lit≤ tt
+
+-- A tag cut out of its block's room.
+pub tag_held : (v : Variant) (room block : List ℕ) (m : ℕ) → m ≡ tag_size v → held v room ≡ block → take m room ≡ take (tag_size v) block
+tag_held v room block m size e =
+    ap (λ k. take k room) size ∙ sym (take-take (tag_size v) (block_size v) room (tag_fits v)) ∙ ap (take (tag_size v)) e
 
 pub tag_length : (v : Variant) (key nonce ad sealed : List ℕ) → length (tag v key nonce ad sealed) ≡ tag_size v
 unfolding tag tag_from

@@ -1,9 +1,9 @@
 pub mod XorLaws
 pub mod StreamLaws
 pub mod MaskLaws
-pub mod GroupLaws
 pub mod PartLaws
 pub mod SumLaws
-pub mod StepLaws
+pub mod GroupLaws
+pub mod RoomLaws
 pub mod TagLaws
 pub mod Laws

@@ -22,6 +22,11 @@ wide_nonce Dumbo = omega arith
 wide_nonce Jumbo = omega arith
 wide_nonce Delirium = omega arith
 
+pub wide_key : (v : Variant) → 16 ≤ block_size v
+wide_key Dumbo = omega arith
+wide_key Jumbo = omega arith
+wide_key Delirium = omega arith
+
 pub phi1_length : (v : Variant) (b : List ℕ) → length b ≡ block_size v → length (phi1 v b) ≡ block_size v
 unfolding phi1
 phi1_length v b e = omega (arith, wide v, length-append (drop 1 b) (appended v b ∷ []), length-drop 1 b)

@@ -1,15 +1,9 @@
--- Loading a part of the bytes and 01.
+-- Loading bytes and 01, and sums of blocks side by side.
 use Rattle.std.proofs.Common.{◌≡◌, ℕ, zero, suc, ◌+◌, ◌-◌, ◌*◌, ◌<◌, ◌≤◌, min, List, [], ◌∷◌, ◌++◌, length, take, drop, set, replicate, sym, refl, ap, ◌∙◌, ap₂, add-zero, zero-add, arith}
-use Rattle.std.proofs.lemmas.List.{length-take, length-replicate, length-drop, length-append, drop-replicate, drop_all, append_assoc, take_all, set_at, drop-append-le, take-append-le}
+use Rattle.std.proofs.Math.Nat.{sub-zero}
+use Rattle.std.proofs.lemmas.List.{length-take, length-replicate, length-append, drop-replicate, append_assoc, take_all, set_at, take-append-le}
 use Rattle.cipher.specs.Blocks.{padded, summed, xored, stream}
 use Rattle.cipher.proofs.StreamLaws.{stream_at}
-
-pub load_past : (n at : ℕ) (bytes zs : List ℕ) → length bytes < at → zs ≡ replicate n 0 → zs ≡ padded n (drop at (bytes ++ (1 ∷ [])))
-unfolding padded
-load_past n at bytes zs h ez =
-    let l : length (bytes ++ (1 ∷ [])) ≤ at = omega (arith, length-append bytes (1 ∷ [])) in
-    let z : n - 0 ≡ n = omega arith in
-    ez ∙ sym (ap (padded n) (drop_all at (bytes ++ (1 ∷ [])) l) ∙ ap (λ t. t ++ replicate (n - 0) 0) (take_all n [] (omega arith)) ∙ ap (λ k. replicate k 0) z)
 
 last : (n k : ℕ) (rest : List ℕ) → length rest ≡ k → k < n → set (rest ++ replicate (n - k) 0) k 1 ≡ padded n (rest ++ (1 ∷ []))
 unfolding padded
@@ -21,27 +15,23 @@ last n k rest e h =
     ∙ sym (append_assoc rest (1 ∷ []) (replicate (n - suc k) 0))
     ∙ ap₂ (λ y z. y ++ replicate (n - z) 0) (sym (take_all n (rest ++ (1 ∷ [])) (rw l h))) (sym l)
 
-pub load_last : (n at k u : ℕ) (bytes zs ys : List ℕ) → at ≤ length bytes → k ≡ min n (length bytes - at) → zs ≡ replicate n 0 → u ≡ k → ys ≡ take u (drop at bytes) → k < n
-    → set (ys ++ drop (k - 0) zs) k 1 ≡ padded n (drop at (bytes ++ (1 ∷ [])))
-load_last n at k u bytes zs ys h ek ez eu ey lt =
-    let l : length (drop at bytes) ≡ k = omega (arith, length-drop at bytes) in
-    let y : ys ≡ drop at bytes = ey ∙ take_all u (drop at bytes) (omega arith) in
-    let k0 : k - 0 ≡ k = omega arith in
-    let z : drop (k - 0) zs ≡ replicate (n - k) 0 = ap₂ drop k0 ez ∙ drop-replicate k n 0 in
-    ap₂ (λ a b. set (a ++ b) k 1) y z ∙ last n k (drop at bytes) l lt ∙ ap (padded n) (sym (drop-append-le at bytes (1 ∷ []) h))
+pub load_last : (n k : ℕ) (bytes zs ys : List ℕ) → k ≡ min n (length bytes) → zs ≡ replicate n 0 → ys ≡ take (k - 0) bytes → k < n
+    → set (ys ++ drop (k - 0) zs) k 1 ≡ padded n (bytes ++ (1 ∷ []))
+load_last n k bytes zs ys ek ez ey lt =
+    let y : ys ≡ bytes = ey ∙ take_all (k - 0) bytes (omega arith) in
+    let z : drop (k - 0) zs ≡ replicate (n - k) 0 = ap₂ drop (sub-zero k) ez ∙ drop-replicate k n 0 in
+    ap₂ (λ a b. set (a ++ b) k 1) y z ∙ last n k bytes (omega arith) lt
 
-pub load_full : (n at k u : ℕ) (bytes zs ys : List ℕ) → at ≤ length bytes → k ≡ min n (length bytes - at) → zs ≡ replicate n 0 → u ≡ k → ys ≡ take u (drop at bytes) → n ≤ k
-    → ys ++ drop (k - 0) zs ≡ padded n (drop at (bytes ++ (1 ∷ [])))
+pub load_full : (n k : ℕ) (bytes zs ys : List ℕ) → k ≡ min n (length bytes) → zs ≡ replicate n 0 → ys ≡ take (k - 0) bytes → n ≤ k
+    → ys ++ drop (k - 0) zs ≡ padded n (bytes ++ (1 ∷ []))
 unfolding padded
-load_full n at k u bytes zs ys h ek ez eu ey le =
-    let un : u ≡ n = omega arith in
-    let ln : n ≤ length (drop at bytes) = omega (arith, length-drop at bytes) in
-    let none : n - length (drop at bytes ++ (1 ∷ [])) ≡ 0 = omega (arith, length-append (drop at bytes) (1 ∷ [])) in
-    let z0 : n - (k - 0) ≡ 0 = omega arith in
-    let z : drop (k - 0) zs ≡ [] = ap (drop (k - 0)) ez ∙ drop-replicate (k - 0) n 0 ∙ ap (λ j. replicate j 0) z0 in
-    ap₂ ◌++◌ (ey ∙ ap (λ j. take j (drop at bytes)) un) z
-    ∙ ap₂ (λ a j. a ++ replicate j 0) (sym (take-append-le n (drop at bytes) (1 ∷ []) ln)) (sym none)
-    ∙ ap (padded n) (sym (drop-append-le at bytes (1 ∷ []) h))
+load_full n k bytes zs ys ek ez ey le =
+    let all : k - 0 ≡ n = omega arith in
+    let much : n ≤ length bytes = omega arith in
+    let none : n - length (bytes ++ (1 ∷ [])) ≡ n - n = omega (arith, length-append bytes (1 ∷ [])) in
+    let front : ys ≡ take n (bytes ++ (1 ∷ [])) = ey ∙ ap (λ j. take j bytes) all ∙ sym (take-append-le n bytes (1 ∷ []) much) in
+    let rest : drop (k - 0) zs ≡ replicate (n - length (bytes ++ (1 ∷ []))) 0 = ap₂ drop all ez ∙ drop-replicate n n 0 ∙ ap (λ j. replicate j 0) (sym none) in
+    ap₂ ◌++◌ front rest
 
 pub padded_length : (n : ℕ) (xs : List ℕ) → length (padded n xs) ≡ n
 unfolding padded
@@ -60,6 +50,3 @@ summed_ext f h (suc k) i b e =
 pub summed_stream : (f : ℕ → List ℕ) (n g k : ℕ) (b : List ℕ) → ((q : ℕ) → length (f q) ≡ n) → g ≤ k → summed (λ q. take n (drop (q * n) (stream f k 0))) g 0 b ≡ summed f g 0 b
 summed_stream f n g k b h l = summed_ext (λ q. take n (drop (q * n) (stream f k 0))) f g 0 b
     (λ q s. ap (λ z. take n (drop (z * n) (stream f k 0))) (add-zero q) ∙ stream_at f n k q 0 h (omega arith))
-
-pub part_size : (a n : ℕ) (xs : List ℕ) → a + n ≤ length xs → length (take (a + n - a) (drop a xs)) ≡ n
-part_size a n xs h = omega (arith, length-take (a + n - a) (drop a xs), length-drop a xs)

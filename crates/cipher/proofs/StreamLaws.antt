@@ -1,13 +1,12 @@
 -- Blocks side by side: any block_size, any functions.
-use Rattle.std.proofs.Common.{◌≡◌, ℕ, zero, suc, ◌+◌, ◌-◌, ◌*◌, ◌<◌, ◌≤◌, min, List, [], ◌∷◌, ◌++◌, length, take, drop, sym, refl, ap, ◌∙◌, ap₂, ⊎_elim, add-zero, suc-mul, suc-add, zero-add, zero-mul, add-one, arith}
-use lib.Bits.{bit_xor}
+use Rattle.std.proofs.Common.{◌≡◌, ℕ, zero, suc, ◌+◌, ◌-◌, ◌*◌, ◌<◌, ◌≤◌, List, ◌++◌, length, take, drop, sym, refl, ap, ◌∙◌, ap₂, ⊎_elim, add-zero, suc-mul, suc-add, zero-add, zero-mul, add-one, arith}
 use borrow.Rule.Slice.PartMut.{put_mid}
 use Rattle.std.proofs.lemmas.Bool.{cases_lt}
-use Rattle.std.proofs.lemmas.List.{append-nil, append_assoc, drop-drop, length-append, length-drop, take_at, drop_at, drop_all}
+use Rattle.std.proofs.lemmas.List.{append-nil, append_assoc, drop-drop, length-append, take_at, drop_at}
 use Rattle.std.proofs.lemmas.Nat.{mul-le}
 use Rattle.engine.specs.Permutation.{each}
 use Rattle.cipher.specs.Blocks.{xored, stream, summed, repeated}
-use Rattle.cipher.proofs.XorLaws.{length_xored, xored_append, xored_part, xored_enough}
+use Rattle.cipher.proofs.XorLaws.{length_xored, xored_append, xored_enough}
 
 pub length_stream : (f : ℕ → List ℕ) (n k i : ℕ) → ((q : ℕ) → length (f q) ≡ n) → length (stream f k i) ≡ k * n
 unfolding stream
@@ -93,34 +92,6 @@ laid_more f n k xs ys new h within laid is =
     let all : stream f (k + 1) 0 ≡ stream f k 0 ++ f k = stream_more f k 0 ∙ ap (λ z. stream f k 0 ++ f z) (add-zero k) in
     rw (block_size, before, rest, is, more, all, drop-drop) (sym (append_assoc (stream f k 0) (f k) (drop (k * n + n) xs)))
 
-pub laid_all : (f : ℕ → List ℕ) (n k : ℕ) (xs ys : List ℕ) → length xs ≡ k * n → Laid f n k xs ys → ys ≡ stream f k 0
-laid_all f n k xs ys all laid = laid ∙ ap (λ t. stream f k 0 ++ t) (drop_all (k * n) xs (omega arith)) ∙ append-nil (stream f k 0)
-
--- a front of w bytes takes all of ks or is all there is
-cut : (w : ℕ) (d ks : List ℕ) → w ≡ min (length ks) (length d) → xored (take w d) ks ++ drop w d ≡ xored d ks
-unfolding xored
-cut zero [] ks e = refl
-cut (suc w) [] ks e = refl
-cut zero (x ∷ d) [] e = refl
-cut zero (x ∷ d) (y ∷ ks) e = absurd (omega arith)
-cut (suc w) (x ∷ d) [] e = absurd (omega arith)
-cut (suc w) (x ∷ d) (y ∷ ks) e = ap (λ z. bit_xor x y ∷ z) (cut w d ks (omega arith))
-
-split : (w : ℕ) (d ks new : List ℕ) → w ≡ min (length ks) (length d) → new ≡ xored (take w d) ks → xored d ks ≡ new ++ drop w d
-split w d ks new e en = sym (ap (λ z. z ++ drop w d) en ∙ cut w d ks e)
-
--- the key stream: k parts are xored in, g more go to the part from k * n on, cut to the text
-pub hidden_more : (f : ℕ → List ℕ) (n k g w : ℕ) (t out new : List ℕ) → ((q : ℕ) → length (f q) ≡ n) → k * n ≤ length t → w ≡ min (k * n + g * n) (length t) - k * n
-    → out ≡ xored t (stream f k 0) → new ≡ xored (take w (drop (k * n) out)) (stream f g k) → put_mid (k * n) w out new ≡ xored t (stream f (k + g) 0)
-hidden_more f n k g w t out new h within ew eo en =
-    let lo : length out ≡ length t = ap length eo ∙ length_xored t (stream f k 0) in
-    let ls = length_stream f n k 0 h in
-    let lg = length_stream f n g k h in
-    let a : xored t (stream f (k + g) 0) ≡ take (k * n) out ++ xored (drop (k * n) out) (stream f g k) =
-    ap (xored t) (stream_add f k g 0 ∙ ap (λ z. stream f k 0 ++ stream f g z) (add-zero k)) ∙ sym (xored_part (k * n) t (stream f k 0) (stream f g k) ls within) ∙ ap (λ z. take (k * n) z ++ xored (drop (k * n) z) (stream f g k)) (sym eo) in
-    let b : xored (drop (k * n) out) (stream f g k) ≡ new ++ drop w (drop (k * n) out) = split w (drop (k * n) out) (stream f g k) new (omega (arith, length-drop (k * n) out)) en in
-    sym (a ∙ ap (λ z. take (k * n) out ++ z) b)
-
 less : (f : ℕ → List ℕ) (n : ℕ) (t : List ℕ) → ((q : ℕ) → length (f q) ≡ n) → (k g : ℕ) → length t ≤ k * n → k ≤ g → xored t (stream f g 0) ≡ xored t (stream f k 0)
 less f n t h k g a l =
     let e : g ≡ k + (g - k) = omega arith in
@@ -135,10 +106,6 @@ pub summed_add : (f : ℕ → List ℕ) (k g i : ℕ) (b : List ℕ) → summed 
 unfolding summed
 summed_add f zero g i b = ap₂ (λ x y. summed f x y b) (zero-add g) (sym (zero-add i))
 summed_add f (suc k) g i b = let e : k + suc i ≡ suc k + i = omega arith in ap (λ z. summed f z i b) (suc-add k g) ∙ summed_add f k g (suc i) (xored b (f i)) ∙ ap (λ z. summed f g z (summed f k (suc i) (xored b (f i)))) e
-
-pub summed_more : (f : ℕ → List ℕ) (k i : ℕ) (b : List ℕ) → summed f (k + 1) i b ≡ xored (summed f k i b) (f (k + i))
-unfolding summed
-summed_more f k i b = summed_add f k 1 i b
 
 -- masks
 pub repeated_add : (f : List ℕ → List ℕ) (q i : ℕ) (l : List ℕ) → repeated f q (repeated f i l) ≡ repeated f (q + i) l

@@ -1,14 +1,16 @@
 -- The loop over groups of parts that go into the tag sum.
-use Rattle.std.proofs.Common.{◌≡◌, ℕ, zero, suc, ◌+◌, ◌-◌, ◌*◌, ◌/◌, ◌<◌, ◌≤◌, min, List, [], ◌∷◌, ◌++◌, length, drop, sym, refl, ap, ◌∙◌, ap₂, add-zero, suc-mul, add-mul, add_comm, zero-add, arith}
-use native.Mathlib.Nat.{add-mul-div_right}
-use Rattle.std.proofs.lemmas.Nat.{div_below}
-use Rattle.std.proofs.lemmas.List.{length-append}
+use Rattle.std.proofs.Common.{◌≡◌, ℕ, zero, suc, ◌+◌, ◌-◌, ◌*◌, ◌/◌, ◌%◌, ◌<◌, ◌≤◌, min, List, [], ◌∷◌, ◌++◌, length, take, drop, replicate, sym, refl, ap, ◌∙◌, ap₂, add-zero, add-mul, suc-mul, zero-add, arith}
+use native.Mathlib.Nat.{add-mul-div_right, div-lt_iff_lt-mul}
+use Rattle.std.proofs.Math.Nat.{add-mod_left, mod-le, mod-eq_of_lt}
+use Rattle.std.proofs.lemmas.List.{length-append, length-drop, drop-drop, drop_at, drop-append-le, take-append-le, append-nil, append_assoc}
+use Rattle.std.proofs.lemmas.Nat.{mul-le}
 use Rattle.engine.specs.Permutation.{block_size}
 use Rattle.engine.specs.declared.variants.Variant.{Variant}
 use Rattle.cipher.specs.Blocks.{padded, part, summed, xored, repeated, parts}
 use Rattle.cipher.specs.Masks.{phi1}
-use Rattle.cipher.specs.Mode.{enciphered, absorbed}
+use Rattle.cipher.specs.Mode.{closed, enciphered, absorbed}
 use Rattle.cipher.proofs.StreamLaws.{summed_add}
+use Rattle.cipher.proofs.PartLaws.{summed_ext}
 use Rattle.cipher.proofs.MaskLaws.{wide, enciphered_on}
 
 pub summed_shift : (f h : ℕ → List ℕ) (k i j : ℕ) (b : List ℕ) → ((q : ℕ) → f (q + i) ≡ h (q + j)) → summed f k i b ≡ summed h k j b
@@ -24,59 +26,74 @@ parts_more n k left len h e =
     let a : len + (n - 1) ≡ left + (n - 1) + k * n = omega arith in
     ap (λ z. z / n) a ∙ add-mul-div_right (left + (n - 1)) k h
 
-pub count_more : (n k left len g : ℕ) → 0 < n → len ≡ left + k * n → g ≡ min (parts n left) 4 → (min k (parts n len) ≡ k) × (min (k + 4) (parts n len) ≡ k + g)
-count_more n k left len g h e eg =
-    let t = parts_more n k left len h e in
-    (ap (min k) t ∙ low k (parts n left), ap (min (k + 4)) t ∙ high k (parts n left) ∙ ap (λ z. k + z) (sym eg))
-  where
-    low : (k p : ℕ) → min k (p + k) ≡ k
-    low k p = omega arith
+-- The parts from part k on, by the numbers of the string that begins there.
+pub absorbed_on : (v : Variant) (m s b : List ℕ) (j k p : ℕ)
+    → absorbed v (repeated (phi1 v) k m) j p 0 (drop (k * block_size v) s) b ≡ absorbed v m j p k s b
+unfolding absorbed part
+absorbed_on v m s b j k p =
+    let n = block_size v in
+    sym (summed_shift (λ q. enciphered v m (padded n (drop (q * n) s)) q j) (λ q. enciphered v (repeated (phi1 v) k m) (padded n (drop (q * n) (drop (k * n) s))) q j) p k 0 b
+    (λ q. let past : (q + k) * n ≡ k * n + q * n = omega (arith, add-mul q k n) in
+    sym (enciphered_on v m (padded n (drop ((q + k) * n) s)) q k j)
+    ∙ ap₂ (λ i y. enciphered v (repeated (phi1 v) k m) (padded n y) i j) (sym (add-zero q)) (ap (λ i. drop i s) past ∙ sym (drop-drop (q * n) (k * n) s) ∙ ap (λ i. drop (i * n) (drop (k * n) s)) (sym (add-zero q)))))
 
-    high : (k p : ℕ) → min (k + 4) (p + k) ≡ k + min p 4
-    high k p = omega arith
+-- A part that is whole before the end of a string is that of every longer string.
+part_front : (n q : ℕ) (xs ys : List ℕ) → q * n + n ≤ length xs → part n q (xs ++ ys) ≡ take n (drop (q * n) xs)
+unfolding part padded
+part_front n q xs ys h =
+    let a : drop (q * n) (xs ++ ys) ≡ drop (q * n) xs ++ ys = drop-append-le (q * n) xs ys (omega arith) in
+    let long : n ≤ length (drop (q * n) xs) = omega (arith, length-drop (q * n) xs) in
+    let none : n - length (drop (q * n) (xs ++ ys)) ≡ 0 = omega (arith, ap length a, length-append (drop (q * n) xs) ys) in
+    ap₂ (λ y z. y ++ replicate z 0) (ap (take n) a ∙ take-append-le n (drop (q * n) xs) ys long) none ∙ append-nil (take n (drop (q * n) xs))
 
-pub count_all : (n k len : ℕ) → 0 < n → len ≤ k * n → min k (parts n len) ≡ parts n len
-count_all n k len h e =
-    let b : len + (n - 1) < suc k * n = omega (arith, suc-mul k n) in
-    le k (parts n len) (div_below (len + (n - 1)) n (suc k) h b)
-  where
-    le : (k p : ℕ) → p < suc k → min k p ≡ p
-    le k p h = omega arith
-
-place : (at k q w : ℕ) → at ≡ k * w → at + (q + 0) * w ≡ (q + k) * w
-place at k q w e = ap₂ (λ x y. x + y * w) e (add-zero q) ∙ add_comm (k * w) (q * w) ∙ sym (add-mul q k w)
-
-pub absorb_more : (v : Variant) (l m s b sum new : List ℕ) (j k g at p : ℕ) → at ≡ k * block_size v → m ≡ repeated (phi1 v) k l → min k p ≡ k → min (k + 4) p ≡ k + g
-    → sum ≡ summed (λ q. enciphered v l (part (block_size v) q s) q j) (min k p) 0 b
-    → new ≡ summed (λ q. enciphered v m (padded (block_size v) (drop (at + q * block_size v) s)) q j) g 0 sum
-    → new ≡ summed (λ q. enciphered v l (part (block_size v) q s) q j) (min (k + 4) p) 0 b
-unfolding part
-absorb_more v l m s b sum new j k g at p ea em e1 e2 es en =
-    en
-    ∙ summed_shift (λ q. enciphered v m (padded (block_size v) (drop (at + q * block_size v) s)) q j) (λ q. enciphered v l (padded (block_size v) (drop (q * block_size v) s)) q j) g 0 k sum
-    (λ q. ap₂ (λ y z. enciphered v m (padded (block_size v) (drop y s)) z j) (place at k q (block_size v) ea) (add-zero q)
-    ∙ ap (λ y. enciphered v y (padded (block_size v) (drop ((q + k) * block_size v) s)) q j) em ∙ enciphered_on v l (padded (block_size v) (drop ((q + k) * block_size v) s)) q k j)
-    ∙ ap₂ (λ y z. summed (λ q. enciphered v l (padded (block_size v) (drop (q * block_size v) s)) q j) g y z) (sym (add-zero k)) (es ∙ ap (λ z. summed (λ q. enciphered v l (padded (block_size v) (drop (q * block_size v) s)) q j) z 0 b) e1)
-    ∙ sym (summed_add (λ q. enciphered v l (padded (block_size v) (drop (q * block_size v) s)) q j) k g 0 b)
-    ∙ ap (λ z. summed (λ q. enciphered v l (padded (block_size v) (drop (q * block_size v) s)) q j) z 0 b) (sym e2)
-
-pub absorb_none : (f : ℕ → List ℕ) (p : ℕ) (b : List ℕ) → b ≡ summed f (min 0 p) 0 b
-unfolding summed
-absorb_none f p b = let e : 0 ≡ min 0 p = omega arith in ap (λ z. summed f z 0 b) e
-
-pub absorb_all : (v : Variant) (l bytes b sum : List ℕ) (j k at : ℕ) → at ≡ k * block_size v → length bytes < at
-    → sum ≡ summed (λ q. enciphered v l (part (block_size v) q (bytes ++ (1 ∷ []))) q j) (min k (parts (block_size v) (length bytes + 1))) 0 b → sum ≡ absorbed v l j (parts (block_size v) (length (bytes ++ (1 ∷ [])))) 0 (bytes ++ (1 ∷ [])) b
+-- A turn of the loop over chunks of four parts: they are summed, and what is left goes on from there.
+pub absorb_turn : (v : Variant) (m b text chunk left running sum : List ℕ) (j : ℕ) → text ≡ chunk ++ left → length chunk ≡ 4 * block_size v
+    → running ≡ repeated (phi1 v) 4 m
+    → sum ≡ absorbed v m j (min (parts (block_size v) (length chunk + 1)) 4) 0 (closed chunk) b
+    → absorbed v running j (parts (block_size v) (length (closed left))) 0 (closed left) sum ≡ absorbed v m j (parts (block_size v) (length (closed text))) 0 (closed text) b
 unfolding absorbed
-absorb_all v l bytes b sum j k at ea h es =
-    let e : length bytes + 1 ≤ k * block_size v = omega arith in
-    es ∙ ap (λ z. summed (λ q. enciphered v l (part (block_size v) q (bytes ++ (1 ∷ []))) q j) z 0 b)
-    (count_all (block_size v) k (length bytes + 1) (wide v) e ∙ ap (parts (block_size v)) (sym (length-append bytes (1 ∷ []))))
+absorb_turn v m b text chunk left running sum j et ec em es =
+    let n = block_size v in
+    let s : List ℕ = closed text in
+    let f : ℕ → List ℕ = λ q. enciphered v m (part n q s) q j in
+    let h : ℕ → List ℕ = λ q. enciphered v m (part n q (closed chunk)) q j in
+    let whole : s ≡ chunk ++ closed left = ap closed et ∙ append_assoc chunk left (1 ∷ []) in
+    let onward : closed left ≡ drop (4 * n) s = sym (ap (drop (4 * n)) whole ∙ drop_at chunk (closed left) (4 * n) ec) in
+    let p : ℕ = parts n (length (closed left)) in
+    let fewer : length s ≡ length (closed left) + 4 * n = omega (arith, ap length whole, length-append chunk (closed left)) in
+    let all : parts n (length s) ≡ p + 4 = parts_more n 4 (length (closed left)) (length s) (wide v) fewer in
+    let more : parts n (length chunk + 1) ≡ parts n 1 + 4 = parts_more n 4 1 (length chunk + 1) (wide v) (omega arith) in
+    let four : min (parts n (length chunk + 1)) 4 ≡ 4 = omega arith in
+    let turned : p + 4 ≡ 4 + p = omega arith in
+    let within : (q : ℕ) → q < 4 → (q + 0) * n + n ≤ length chunk = λ q l. let less : suc q * n ≤ 4 * n = mul-le (suc q) n 4 n (omega arith) (omega arith) in omega (arith, suc-mul q n, ap (λ k. k * n) (add-zero q)) in
+    let same : summed h 4 0 b ≡ summed f 4 0 b =
+    summed_ext h f 4 0 b (λ q l. ap (λ x. enciphered v m x (q + 0) j)
+    (part_front n (q + 0) chunk (1 ∷ []) (within q l) ∙ sym (part_front n (q + 0) chunk (closed left) (within q l)) ∙ ap (part n (q + 0)) (sym whole))) in
+    ap₂ (λ y z. absorbed v y j p 0 z sum) em onward ∙ absorbed_on v m s sum j 4 p
+    ∙ ap (summed f p 4) (es ∙ ap (λ k. summed h k 0 b) four ∙ same) ∙ sym (summed_add f 4 p 0 b) ∙ ap (λ k. summed f k 0 b) (sym (all ∙ turned))
 
-pub next_place : (at k n w : ℕ) → n ≡ w → at ≡ k * w → at + 4 * n ≡ (k + 4) * w
-next_place at k n w e ea = ap₂ (λ x y. x + 4 * y) ea e ∙ sym (add-mul k 4 w)
+-- What comes after all chunks, as one more of them is taken off.
+pub rest_turn : (text chunk left rest : List ℕ) (size after : ℕ) → text ≡ chunk ++ left → length chunk ≡ size → after ≡ size
+    → rest ≡ drop (length text - length text % size) text → rest ≡ drop (length left - length left % after) left
+rest_turn text chunk left rest size after et ec ea er =
+    let all : length text ≡ size + length left = ap length et ∙ length-append chunk left ∙ ap (λ k. k + length left) ec in
+    let same : length text % size ≡ length left % size = ap (λ k. k % size) all ∙ add-mod_left size (length left) in
+    let fewer : length text - length text % size ≡ size + (length left - length left % size) = omega (arith, mod-le (length left) size) in
+    er ∙ ap₂ drop fewer et ∙ sym (drop-drop (length left - length left % size) size (chunk ++ left))
+    ∙ ap (drop (length left - length left % size)) (drop_at chunk left size ec) ∙ ap (λ z. drop (length left - length left % z) left) (sym ea)
 
-pub counts : (v : Variant) (n k at len g : ℕ) → n ≡ block_size v → at ≡ k * block_size v → at ≤ len → g ≡ min (parts n (len + 1 - at)) 4
-    → (min k (parts (block_size v) (len + 1)) ≡ k) × (min (k + 4) (parts (block_size v) (len + 1)) ≡ k + g)
-counts v n k at len g en ea h eg =
-    let e : len + 1 ≡ len + 1 - at + k * block_size v = omega arith in
-    count_more (block_size v) k (len + 1 - at) (len + 1) g (wide v) e (eg ∙ ap (λ z. min (parts z (len + 1 - at)) 4) en)
+-- Where no chunk is left, that is all that is left, and it has four parts at most.
+pub absorb_rest : (v : Variant) (m b text rest sum : List ℕ) (j size : ℕ) → size ≡ 4 * block_size v → length text < size
+    → rest ≡ drop (length text - length text % size) text
+    → sum ≡ absorbed v m j (min (parts (block_size v) (length rest + 1)) 4) 0 (closed rest) b
+    → sum ≡ absorbed v m j (parts (block_size v) (length (closed text))) 0 (closed text) b
+absorb_rest v m b text rest sum j size eg h er es =
+    let n = block_size v in
+    let all : length text % size ≡ length text = mod-eq_of_lt h in
+    let none : length text - length text % size ≡ 0 = omega arith in
+    let whole : rest ≡ text = er ∙ ap (λ k. drop k text) none in
+    let below : length text + 1 + (n - 1) < 5 * n = omega (arith, wide v) in
+    let few : parts n (length text + 1) < 5 = (div-lt_iff_lt-mul (wide v)).1 below in
+    let least : min (parts n (length text + 1)) 4 ≡ parts n (length text + 1) = omega arith in
+    es ∙ ap (λ r. absorbed v m j (min (parts n (length r + 1)) 4) 0 (closed r) b) whole
+    ∙ ap (λ k. absorbed v m j k 0 (closed text) b) (least ∙ ap (parts n) (sym (length-append text (1 ∷ []))))

@@ -1,7 +1,8 @@
 -- Exclusive or of lists of bytes, place by place and part by part.
-use Rattle.std.proofs.Common.{◌≡◌, ℕ, zero, suc, ◌+◌, ◌<◌, ◌≤◌, min, Bool, true, false, eqb, List, [], ◌∷◌, ◌++◌, length, get_or, take, drop, set, Decides, sym, refl, ap, ◌∙◌, subst, ap₂, ⊎_elim, arith, below_more, eqb-true}
+use Rattle.std.proofs.Common.{◌≡◌, ℕ, zero, suc, ◌<◌, ◌≤◌, min, Bool, true, false, eqb, List, [], ◌∷◌, ◌++◌, length, get_or, take, set, Decides, fold, sym, refl, ap, ◌∙◌, subst, ap₂, ⊎_elim, arith, eqb-true}
+use Rattle.std.specs.List.{zip}
 use lib.Bits.{bit_xor, bit_or, xor_zero_r, xor_zero_l, xor_assoc, xor_self, or_add_and, xor_add_and}
-use Rattle.std.proofs.lemmas.List.{take_all, ext_get_or}
+use Rattle.std.proofs.lemmas.List.{take_all}
 use Rattle.std.proofs.lemmas.Bool.{cases_lt}
 use Rattle.std.specs.Str.{bytes_eq}
 use Rattle.std.proofs.lemmas.Slice.Eq.{bytes_eq-Decides}
@@ -55,16 +56,6 @@ xored_append [] (y ∷ c) b d e = absurd (omega arith)
 xored_append (x ∷ a) [] b d e = absurd (omega arith)
 xored_append (x ∷ a) (y ∷ c) b d e = ap (λ t. bit_xor x y ∷ t) (xored_append a c b d (omega arith))
 
--- more of the stream, from place `at` on
-pub xored_part : (at : ℕ) (t s ks : List ℕ) → length s ≡ at → at ≤ length t
-    → take at (xored t s) ++ xored (drop at (xored t s)) ks ≡ xored t (s ++ ks)
-unfolding xored
-xored_part zero t [] ks e h = ap (λ z. xored z ks) (xored_nil t)
-xored_part zero t (y ∷ s) ks e h = absurd (omega arith)
-xored_part (suc at) t [] ks e h = absurd (omega arith)
-xored_part (suc at) [] (y ∷ s) ks e h = absurd (omega arith)
-xored_part (suc at) (x ∷ t) (y ∷ s) ks e h = ap (λ z. bit_xor x y ∷ z) (xored_part at t s ks (omega arith) (omega arith))
-
 pub xored_enough : (t s r : List ℕ) → length t ≤ length s → xored t (s ++ r) ≡ xored t s
 unfolding xored
 xored_enough [] s r h = refl
@@ -77,31 +68,29 @@ xor_same x y h = sym (xor_zero_r x) ∙ ap (bit_xor x) (sym (xor_self y)) ∙ sy
 pub or_none : (a b : ℕ) → bit_or a b ≡ 0 → (a ≡ 0) × (b ≡ 0)
 or_none a b h = (omega (arith, or_add_and a b, xor_add_and a b), omega (arith, or_add_and a b, xor_add_and a b))
 
--- a loop that ors all differences: its step and its end
-abbrev pub Same : ℕ → ℕ → List ℕ → List ℕ → Type 0
-Same d k a b = (d ≡ 0 → (j : ℕ) → j < k → get_or a j 0 ≡ get_or b j 0) × (a ≡ b → d ≡ 0)
+-- all differences ored: one more pair of bytes
+abbrev pub differing : ℕ → ℕ × ℕ → ℕ
+differing d p = bit_or d (bit_xor p.0 p.1)
 
-pub same_more : (d k : ℕ) (a b : List ℕ) → Same d k a b → Same (bit_or d (bit_xor (get_or a k 0) (get_or b k 0))) (k + 1) a b
-same_more d k a b s = (
-  (λ e. let z = or_none d (bit_xor (get_or a k 0) (get_or b k 0)) e in below_more (λ j. get_or a j 0 ≡ get_or b j 0) k (s.0 z.0) (xor_same (get_or a k 0) (get_or b k 0) z.1)),
-  (λ e. ap₂ bit_or (s.1 e) (ap (λ t. bit_xor (get_or a k 0) (get_or t k 0)) (sym e) ∙ xor_self (get_or a k 0))),
-)
+same_from_fold : (a b : List ℕ) (d : ℕ) → length a ≡ length b → fold differing d (zip a b) ≡ 0 → (d ≡ 0) × (a ≡ b)
+same_from_fold [] [] d l e = (e, refl)
+same_from_fold [] (y ∷ b) d l e = absurd (omega arith)
+same_from_fold (x ∷ a) [] d l e = absurd (omega arith)
+same_from_fold (x ∷ a) (y ∷ b) d l e =
+    let r = same_from_fold a b (bit_or d (bit_xor x y)) (omega arith) e in
+    let z = or_none d (bit_xor x y) r.0 in
+    (z.0, ap₂ ◌∷◌ (xor_same x y z.1) r.1)
 
-pub same_all : (k : ℕ) (a b : List ℕ) → length a ≡ k → length a ≡ length b → ((j : ℕ) → j < k → get_or a j 0 ≡ get_or b j 0) → a ≡ b
-same_all k a b l e h = ext_get_or 0 a b e (λ i g. h i (omega arith))
+fold_of_same : (a : List ℕ) → fold differing 0 (zip a a) ≡ 0
+fold_of_same [] = refl
+fold_of_same (x ∷ a) = ap (λ d. fold differing (bit_or 0 d) (zip a a)) (xor_self x) ∙ fold_of_same a
 
--- What is past the end of the stream is as it was.
-pub xored_past : (at : ℕ) (t s : List ℕ) → length s ≤ at → drop at (xored t s) ≡ drop at t
-unfolding xored
-xored_past at [] s h = refl
-xored_past at (x ∷ t) [] h = refl
-xored_past zero (x ∷ t) (y ∷ s) h = absurd (omega arith)
-xored_past (suc at) (x ∷ t) (y ∷ s) h = xored_past at t s (omega arith)
-
--- The test of two strings by the sum of their differences.
-pub same_tested : (d k : ℕ) (a b : List ℕ) → length a ≡ k → length a ≡ length b → Same d k a b → eqb d 0 ≡ bytes_eq a b
-same_tested d k a b l e s =
-    let tests : Decides (eqb d 0) (a ≡ b) = (λ t. same_all k a b l e (s.0 (eqb-true d 0 t)), λ p. ap (λ z. eqb z 0) (s.1 p)) in
+-- The test of two strings by all their differences.
+pub same_tested : (a b : List ℕ) → length a ≡ length b → eqb (fold differing 0 (zip a b)) 0 ≡ bytes_eq a b
+same_tested a b l =
+    let d = fold differing 0 (zip a b) in
+    let tests : Decides (eqb d 0) (a ≡ b) =
+    (λ t. (same_from_fold a b 0 l (eqb-true d 0 t)).1, λ p. ap (λ z. eqb z 0) (ap (λ z. fold differing 0 (zip a z)) (sym p) ∙ fold_of_same a)) in
     decided_alike (eqb d 0) (bytes_eq a b) (a ≡ b) tests (bytes_eq-Decides a b)
 
 pub other_length : (a b : List ℕ) → (length a ≡ length b → ⊥) → false ≡ bytes_eq a b

@@ -1,12 +1,24 @@
 -- The program's checked texts and answers as plain values.
-use Rattle.std.specs.Prelude.{◌≡◌, Ok, Err, Result}
+use Rattle.std.specs.Prelude.{◌≡◌, ℕ, List, Ok, Err, Result}
+use denote.Ref.{Bor}
 use Rattle.cipher.specs.Calls.{CheckedText}
 use Rattle.cipher.specs.declared.checked.Checked.{Checked}
 use Rattle.cipher.specs.declared.faults.CipherFault.{CipherFault}
+use Rattle.cipher.specs.declared.sizes.Lawful.{Lawful}
 
 -- A checked text of the program.
 abbrev pub text_of : Checked → CheckedText
 text_of t = record { variant = t.variant; key = t.key; nonce = t.nonce; sealed = t.sealed.now }
+
+-- The answer of the check of a key, with the key.
+abbrev pub key_seen : Result (Bor (List ℕ)) CipherFault → Result (List ℕ) CipherFault
+key_seen (Ok k) = Ok k.now
+key_seen (Err f) = Err f
+
+-- The answer of the checks of sizes, with key and nonce.
+abbrev pub lawful_seen : Result Lawful CipherFault → Result (List ℕ × List ℕ) CipherFault
+lawful_seen (Ok l) = Ok (l.key.now, l.nonce.now)
+lawful_seen (Err f) = Err f
 
 -- The answer of a check.
 abbrev pub check_seen : Result Checked CipherFault → Result CheckedText CipherFault

@@ -2,16 +2,14 @@
 ghost use Rattle.std.specs.Prelude.{◌≡◌, ℕ, ◌+◌, ◌*◌, ◌<◌, ◌≤◌, length, Ok};
 ghost use Rattle.std.specs.Str.{bytes_eq};
 ghost use Rattle.fault.specs.Checks.{left};
-ghost use Rattle.big_endian.specs.Numbers.{bytes_of};
-ghost use Rattle.engine.specs.Permutation.{block_size};
-ghost use Rattle.cipher.specs.Mode.{tag_size, tag as tag_of, opened_text};
+ghost use Rattle.cipher.specs.Mode.{tag_from};
+ghost use Rattle.cipher.specs.Groups.{held};
 ghost use Rattle.cipher.specs.Calls.{check_answer, open_answer, opened};
 ghost use Rattle.cipher.specs.Views.{text_of, check_seen, open_seen, GivesBack};
 
+use crate::enciphering::Keyed;
 use crate::faults::CipherFault;
-use crate::sealing::stream_from;
-use crate::sizes::{KEY_BYTES, MOST_BLOCK_BYTES, MOST_TAG_BYTES, NONCE_BYTES, check_sizes};
-use crate::tagging::{first_mask_into, tag_into};
+use crate::sizes::{KEY_BYTES, MOST_BLOCK_BYTES, NONCE_BYTES, check_sizes, tag_bytes};
 use crate::xor::equal;
 use big_endian::{number_of, put_number};
 use engine::{Engine, Plain, Variant};
@@ -25,7 +23,8 @@ pub struct Checked<'a> {
     nonce: u128,
 }
 
-// Checks the tag of a received text.
+// Checks the tag of a received text. The parameters are those of the mode, each lent by itself, since a struct of them would be
+// written for one call.
 pub fn check<'a, E: Engine>(
     engine: &E,
     key: &[u8],
@@ -37,8 +36,9 @@ pub fn check<'a, E: Engine>(
     ensures { check_seen result ≡ check_answer (E.kind engine.now) key.now nonce.now associated.now sealed.now tag.now }
 {
     let variant = engine.variant();
-    check_sizes(variant, key, nonce, associated, sealed, tag)?;
-    if !tag_is_right(engine, key, nonce, associated, sealed, tag)? {
+    let lawful = check_sizes(variant, key, nonce, associated, sealed, tag)?;
+    let keyed = Keyed::new(engine, lawful.key)?;
+    if !keyed.has_tag(lawful.nonce, associated, sealed, tag)? {
         return Err(CipherFault::WrongTag);
     }
     Ok(Checked {
@@ -49,30 +49,22 @@ pub fn check<'a, E: Engine>(
     })
 }
 
-// Whether a tag is that of the sealed text.
-fn tag_is_right<E: Engine>(
-    engine: &E,
-    key: &[u8],
-    nonce: &[u8],
-    associated: &[u8],
-    sealed: &[u8],
-    tag: &[u8],
-) -> Result<bool, CipherFault>
-    requires key { length key.now ≡ 16 }
-    requires nonce { length nonce.now ≡ 12 }
-    requires associated { length associated.now ≤ 65536 }
-    requires sealed { length sealed.now ≤ 65536 }
-    requires tag { length tag.now ≡ tag_size (E.kind engine.now) }
-    ensures { result ≡ Ok (bytes_eq tag.now (tag_of (E.kind engine.now) key.now nonce.now associated.now sealed.now)) }
-{
-    let n = engine.variant().block_bytes();
-    let mut first = [0u8; MOST_BLOCK_BYTES];
-    let first = &mut first[0..n];
-    first_mask_into(engine, key, first)?;
-    let mut right = [0u8; MOST_TAG_BYTES];
-    let right = &mut right[0..tag.len()];
-    tag_into(engine, first, nonce, associated, sealed, right)?;
-    Ok(equal(tag, right))
+impl<'e, E: Engine> Keyed<'e, E> {
+    // Whether a tag is that of the sealed text.
+    fn has_tag(
+        &self,
+        nonce: &[u8; NONCE_BYTES],
+        associated: &[u8],
+        sealed: &[u8],
+        tag: &[u8],
+    ) -> Result<bool, CipherFault>
+        ensures { let v = E.kind self.now.engine.now in result ≡ Ok (bytes_eq tag.now (tag_from v (held v self.now.first) nonce.now associated.now sealed.now)) }
+    {
+        let mut block = [0; MOST_BLOCK_BYTES];
+        self.tag(nonce, associated, sealed, &mut block)?;
+        let right = &block[0..tag_bytes(self.engine.variant())];
+        Ok(equal(tag, right))
+    }
 }
 
 impl<'a> Checked<'a> {
@@ -129,43 +121,28 @@ impl<'a> Checked<'a> {
         ensures out { out.new ≡ left result (opened (text_of self.now)) out.old }
     {
         self.refuses(out)?;
+        if engine.variant() == self.variant {
+            return self.open_by(engine, out);
+        }
+        self.open_by(
+            &Plain {
+                variant: self.variant,
+            },
+            out,
+        )
+    }
+
+    // Writes what the text opens to, by an engine of its variant.
+    fn open_by<E: Engine>(&self, engine: &E, out: &mut [u8]) -> Result<(), CipherFault>
+        requires variant { E.kind engine.now ≡ self.now.variant }
+        requires out { length out.old ≡ length self.now.sealed.now }
+        ensures granted { result ≡ Ok tt }
+        ensures out { out.new ≡ opened (text_of self.now) }
+    {
         let mut key = [0u8; KEY_BYTES];
         let mut nonce = [0u8; NONCE_BYTES];
         put_number(self.key, &mut key);
         put_number(self.nonce, &mut nonce);
-        if engine.variant() == self.variant {
-            open_sized(engine, &key, &nonce, self.sealed, out)
-        } else {
-            open_sized(
-                &Plain {
-                    variant: self.variant,
-                },
-                &key,
-                &nonce,
-                self.sealed,
-                out,
-            )
-        }
+        Keyed::new(engine, &key)?.stream(&nonce, self.sealed, out)
     }
-}
-
-// Opens a text of lawful sizes.
-fn open_sized<E: Engine>(
-    engine: &E,
-    key: &[u8],
-    nonce: &[u8],
-    sealed: &[u8],
-    out: &mut [u8],
-) -> Result<(), CipherFault>
-    requires key { length key.now ≡ 16 }
-    requires nonce { length nonce.now ≡ 12 }
-    requires out { length out.old ≡ length sealed.now }
-    ensures granted { result ≡ Ok tt }
-    ensures out { out.new ≡ opened_text (E.kind engine.now) key.now nonce.now sealed.now }
-{
-    let n = engine.variant().block_bytes();
-    let mut first = [0u8; MOST_BLOCK_BYTES];
-    let first = &mut first[0..n];
-    first_mask_into(engine, key, first)?;
-    stream_from(engine, first, nonce, sealed, out)
 }

@@ -1,42 +1,63 @@
-// The permutation of blocks under masks.
-ghost use Rattle.std.specs.Prelude.{◌≡◌, ℕ, ◌+◌, ◌*◌, ◌<◌, ◌≤◌, length, Ok};
+// An engine under a key, and its permutation of blocks under masks.
+ghost use Rattle.std.specs.Prelude.{◌≡◌, ℕ, ◌*◌, take, Ok, IsOkAnd};
 ghost use Rattle.engine.specs.Permutation.{block_size, permutation, each};
-ghost use Rattle.cipher.specs.Blocks.{xored};
+ghost use Rattle.cipher.specs.Blocks.{xored, repeated, stream};
+ghost use Rattle.cipher.specs.Masks.{phi1 as first_phi, first_mask, mask as mask_of};
+ghost use Rattle.cipher.specs.Groups.{held};
 
 use crate::faults::CipherFault;
+use crate::masks::four_masks;
+use crate::sizes::{Block, Blocks, KEY_BYTES, MOST_BLOCK_BYTES, MOST_GROUP_BYTES};
 use crate::xor::xor_into;
 use engine::Engine;
 
-// Permutes each of so many neighbouring blocks; four by one call.
-fn permute<E: Engine>(engine: &E, blocks: &mut [u8], count: usize) -> Result<(), CipherFault>
-    requires { length blocks.old ≡ count * block_size (E.kind engine.now) }
-    ensures granted { result ≡ Ok tt }
-    ensures blocks { blocks.new ≡ each (permutation (E.kind engine.now)) (block_size (E.kind engine.now)) count blocks.old }
-{
-    if count == 4 {
-        engine.four(blocks)?;
-        return Ok(());
-    }
-    let n = engine.variant().block_bytes();
-    for i in 0..count {
-        engine.one(&mut blocks[i * n..i * n + n])?;
-    }
-    Ok(())
+// An engine under a key, of which the first mask is all that the cipher needs.
+#[derive(Drop)]
+pub(crate) struct Keyed<'e, E: Engine> {
+    pub(crate) engine: &'e E,
+    pub(crate) first: Block,
 }
 
-// Xors the masks into the blocks, permutes each block, and xors the masks in again.
-pub(crate) fn encipher<E: Engine>(
-    engine: &E,
-    masks: &[u8],
-    blocks: &mut [u8],
-    count: usize,
-) -> Result<(), CipherFault>
-    requires { length blocks.old ≡ count * block_size (E.kind engine.now) }
-    ensures granted { result ≡ Ok tt }
-    ensures blocks { blocks.new ≡ xored (each (permutation (E.kind engine.now)) (block_size (E.kind engine.now)) count (xored blocks.old masks.now)) masks.now }
-{
-    xor_into(blocks, masks);
-    permute(engine, blocks, count)?;
-    xor_into(blocks, masks);
-    Ok(())
+impl<'e, E: Engine> Keyed<'e, E> {
+    pub(crate) fn new(engine: &'e E, key: &[u8; KEY_BYTES]) -> Result<Keyed<'e, E>, CipherFault>
+        ensures { IsOkAnd result (λ k. (k.engine.now ≡ engine.now) × (held (E.kind engine.now) k.first ≡ first_mask (E.kind engine.now) key.now)) }
+    {
+        let mut first = [0; MOST_BLOCK_BYTES];
+        first[0..KEY_BYTES].copy_from_slice(key);
+        engine.one(&mut first[0..engine.variant().block_bytes()])?;
+        Ok(Keyed { engine, first })
+    }
+
+    // Xors a mask into a block, permutes the block, and xors the mask in again.
+    pub(crate) fn encipher(&self, mask: &Block, block: &mut Block) -> Result<(), CipherFault>
+        ensures granted { result ≡ Ok tt }
+        ensures block { let v = E.kind self.now.engine.now in held v block.new ≡ xored (permutation v (xored (held v block.old) (held v mask.now))) (held v mask.now) }
+    {
+        let n = self.engine.variant().block_bytes();
+        xor_into(block, mask);
+        self.engine.one(&mut block[0..n])?;
+        xor_into(block, mask);
+        Ok(())
+    }
+
+    // The same with each of four neighbouring blocks under the running mask and the next three, and steps the running one past them.
+    // There are two, since an engine has a call for one block and one for four, and a text of one block should not pay for four.
+    pub(crate) fn encipher_four(
+        &self,
+        running: &mut Block,
+        j: usize,
+        blocks: &mut Blocks,
+    ) -> Result<(), CipherFault>
+        ensures granted { result ≡ Ok tt }
+        ensures blocks { let v = E.kind self.now.engine.now in let n = block_size v in let masks = stream (λ q. mask_of v (held v running.old) q j) 4 0 in take (4 * n) blocks.new ≡ xored (each (permutation v) n 4 (xored (take (4 * n) blocks.old) masks)) masks }
+        ensures running { let v = E.kind self.now.engine.now in held v running.new ≡ repeated (first_phi v) 4 (held v running.old) }
+    {
+        let variant = self.engine.variant();
+        let mut masks = [0; MOST_GROUP_BYTES];
+        four_masks(variant, running, j, &mut masks);
+        xor_into(blocks, &masks);
+        self.engine.four(&mut blocks[0..4 * variant.block_bytes()])?;
+        xor_into(blocks, &masks);
+        Ok(())
+    }
 }

@@ -4,9 +4,9 @@ ghost use Rattle.cipher.specs.Faults.{fault_number, fault_layer, fault_place};
 ghost use Rattle.cipher.specs.declared.faults.CipherFault.TheVariants.{Engine as by_engine};
 
 use engine::EngineFault;
-use fault::{Layer, Place};
+use fault::{Fault, Layer, Place};
 
-#[derive(Clone, Copy)]
+#[derive(Clone, Copy, PartialEq, Eq, Debug)]
 pub enum CipherFault {
     // The key is not 16 bytes long.
     KeyLength,
@@ -26,10 +26,14 @@ pub enum CipherFault {
     Engine(EngineFault),
 }
 
-impl CipherFault {
-    pub fn number(self) -> u8
-        ensures { result ≡ fault_number self }
-    {
+impl Fault for CipherFault {
+    ghost number_is = { fault_number };
+
+    ghost layer_is = { fault_layer };
+
+    ghost place_is = { fault_place };
+
+    fn number(self) -> u8 {
         match self {
             CipherFault::KeyLength => 1,
             CipherFault::NonceLength => 2,
@@ -42,15 +46,11 @@ impl CipherFault {
         }
     }
 
-    pub fn layer(self) -> Layer
-        ensures { result ≡ fault_layer self }
-    {
+    fn layer(self) -> Layer {
         Layer::Cipher
     }
 
-    pub fn place(self) -> Place
-        ensures { result ≡ fault_place self }
-    {
+    fn place(self) -> Place {
         Place::Zero
     }
 }

@@ -1,16 +1,17 @@
-// The masks: phi1 and phi2 of a block, and a group of masks side by side, each stepped from the one before.
-ghost use Rattle.std.specs.Prelude.{◌≡◌, ℕ, ◌+◌, ◌*◌, ◌<◌, ◌≤◌, length};
+// The masks: phi1 and phi2 of a block, and four masks side by side, each stepped from the one before.
+ghost use Rattle.std.specs.Prelude.{◌≡◌, ℕ, ◌*◌, take};
 ghost use Rattle.engine.specs.Permutation.{block_size};
 ghost use Rattle.cipher.specs.Blocks.{repeated, stream};
-ghost use Rattle.cipher.specs.Masks.{appended, phi1 as first_phi, phi2 as second_phi, mask};
+ghost use Rattle.cipher.specs.Masks.{appended, phi1 as first_phi, phi2 as second_phi, mask as mask_of};
+ghost use Rattle.cipher.specs.Groups.{held};
 
+use crate::sizes::{Block, Blocks};
 use crate::xor::xor_into;
 use engine::Variant;
 
 // The byte that phi1 appends.
-fn appended_byte(variant: Variant, block: &[u8]) -> u8
-    requires { length block.now ≡ block_size variant }
-    ensures { result ≡ appended variant block.now }
+fn appended_byte(variant: Variant, block: &Block) -> u8
+    ensures { result ≡ appended variant (held variant block.now) }
 {
     match variant {
         Variant::Dumbo => block[0].rotate_left(3) ^ (block[3] << 7) ^ (block[13] >> 7),
@@ -19,56 +20,43 @@ fn appended_byte(variant: Variant, block: &[u8]) -> u8
     }
 }
 
-pub(crate) fn phi1(variant: Variant, block: &mut [u8])
-    requires { length block.old ≡ block_size variant }
-    ensures { block.new ≡ first_phi variant block.old }
+pub(crate) fn phi1(variant: Variant, block: &mut Block)
+    ensures { held variant block.new ≡ first_phi variant (held variant block.old) }
 {
+    let n = variant.block_bytes();
     let last = appended_byte(variant, block);
-    let n = block.len();
     block.copy_within(1..n, 0);
     block[n - 1] = last;
 }
 
-fn phi2(variant: Variant, block: &mut [u8], spare: &mut [u8])
-    requires { (length block.old ≡ block_size variant) × (length spare.old ≡ block_size variant) }
-    ensures { block.new ≡ second_phi variant block.old }
+fn phi2(variant: Variant, block: &mut Block)
+    ensures { held variant block.new ≡ second_phi variant (held variant block.old) }
 {
-    spare.copy_from_slice(block);
+    let old = *block;
     phi1(variant, block);
-    xor_into(block, spare);
+    xor_into(block, &old);
 }
 
-// Writes phi2, applied j times, of the running mask.
-fn mask_block(variant: Variant, running: &[u8], j: usize, out: &mut [u8], spare: &mut [u8])
-    requires running { length running.now ≡ block_size variant }
-    requires out { length out.old ≡ block_size variant }
-    requires spare { length spare.old ≡ block_size variant }
-    ensures { out.new ≡ repeated (second_phi variant) j running.now }
+// The running mask with phi2 applied j times.
+pub(crate) fn mask(variant: Variant, running: &Block, j: usize) -> Block
+    ensures { held variant result ≡ mask_of variant (held variant running.now) 0 j }
 {
-    out.copy_from_slice(running);
-    for k in 0..j {
-        phi2(variant, out, spare);
+    let mut block = *running;
+    for _ in 0..j {
+        phi2(variant, &mut block);
     }
+    block
 }
 
-// Writes so many masks side by side, from the running one on, and steps the running one past them.
-pub(crate) fn masks_into(
-    variant: Variant,
-    running: &mut [u8],
-    j: usize,
-    masks: &mut [u8],
-    count: usize,
-    spare: &mut [u8],
-)
-    requires running { length running.old ≡ block_size variant }
-    requires masks { length masks.old ≡ count * block_size variant }
-    requires spare { length spare.old ≡ block_size variant }
-    ensures masks { masks.new ≡ stream (λ q. mask variant running.old q j) count 0 }
-    ensures running { running.new ≡ repeated (first_phi variant) count running.old }
+// Writes four masks side by side, from the running one on, and steps the running one past them.
+pub(crate) fn four_masks(variant: Variant, running: &mut Block, j: usize, masks: &mut Blocks)
+    ensures masks { take (4 * block_size variant) masks.new ≡ stream (λ q. mask_of variant (held variant running.old) q j) 4 0 }
+    ensures running { held variant running.new ≡ repeated (first_phi variant) 4 (held variant running.old) }
 {
-    let n = running.len();
-    for q in 0..count {
-        mask_block(variant, running, j, &mut masks[q * n..q * n + n], spare);
+    let n = variant.block_bytes();
+    // By the place, since a proof knows no byte of the masks after a loop over `chunks_exact_mut`.
+    for q in 0..4 {
+        masks[q * n..q * n + n].copy_from_slice(&mask(variant, running, j)[0..n]);
         phi1(variant, running);
     }
 }

@@ -1,8 +1,10 @@
 // The sizes of keys, nonces, texts and tags, and the checks of them.
-ghost use Rattle.std.specs.Prelude.{◌≡◌, []};
+ghost use Rattle.std.specs.Prelude.{◌≡◌, ◌==◌, [], ◌∷◌, length};
 ghost use Rattle.fault.specs.Checks.{decided};
 ghost use Rattle.cipher.specs.Mode.{tag_size};
-ghost use Rattle.cipher.specs.Calls.{key_answer, size_checks};
+ghost use Rattle.cipher.specs.Calls.{size_checks, key_answer};
+ghost use Rattle.cipher.specs.Views.{lawful_seen, key_seen};
+ghost use Rattle.cipher.specs.declared.faults.CipherFault.TheVariants.{KeyLength};
 
 use crate::faults::CipherFault;
 use engine::Variant;
@@ -12,10 +14,26 @@ pub(crate) const KEY_BYTES: usize = 16;
 pub(crate) const NONCE_BYTES: usize = 12;
 
 pub(crate) const MOST_BYTES: usize = 65536;
-// The longest block and the longest tag of all variants.
+// The bytes of the longest block, and of four.
 pub(crate) const MOST_BLOCK_BYTES: usize = 25;
 
-pub(crate) const MOST_TAG_BYTES: usize = 16;
+pub(crate) const MOST_GROUP_BYTES: usize = 4 * MOST_BLOCK_BYTES;
+
+// The bytes of the longest tag of all variants.
+pub const MOST_TAG_BYTES: usize = 16;
+
+// Room for a block of any variant, and for four neighbouring ones. The first bytes hold them, and the others say nothing. There is
+// no heap here, and how long an engine's blocks are is known only when it runs: so blocks are arrays with room for the longest.
+pub(crate) type Block = [u8; MOST_BLOCK_BYTES];
+
+pub(crate) type Blocks = [u8; MOST_GROUP_BYTES];
+
+// The key and the nonce of a call whose sizes are lawful.
+#[derive(Clone, Copy)]
+pub(crate) struct Lawful<'a> {
+    pub(crate) key: &'a [u8; KEY_BYTES],
+    pub(crate) nonce: &'a [u8; NONCE_BYTES],
+}
 
 // The bytes of a tag.
 pub fn tag_bytes(variant: Variant) -> usize
@@ -28,31 +46,34 @@ pub fn tag_bytes(variant: Variant) -> usize
     }
 }
 
+// A key of the right length.
+fn sized_key(key: &[u8]) -> Result<&[u8; KEY_BYTES], CipherFault>
+    ensures { key_seen result ≡ decided (((length key.now == 16), KeyLength) ∷ []) key.now }
+{
+    key.as_array().ok_or(CipherFault::KeyLength)
+}
+
 // The check of a key.
 pub fn check_key(key: &[u8]) -> Result<(), CipherFault>
     ensures { result ≡ key_answer key.now }
 {
-    if key.len() != KEY_BYTES {
-        return Err(CipherFault::KeyLength);
-    }
+    sized_key(key)?;
     Ok(())
 }
 
 // The checks of sizes that sealing and checking share, in their order.
-pub(crate) fn check_sizes(
+pub(crate) fn check_sizes<'a>(
     variant: Variant,
-    key: &[u8],
-    nonce: &[u8],
+    key: &'a [u8],
+    nonce: &'a [u8],
     associated: &[u8],
     text: &[u8],
     tag: &[u8],
-) -> Result<(), CipherFault>
-    ensures { result ≡ decided (size_checks variant key.now nonce.now associated.now text.now tag.now []) tt }
+) -> Result<Lawful<'a>, CipherFault>
+    ensures { lawful_seen result ≡ decided (size_checks variant key.now nonce.now associated.now text.now tag.now []) (key.now, nonce.now) }
 {
-    check_key(key)?;
-    if nonce.len() != NONCE_BYTES {
-        return Err(CipherFault::NonceLength);
-    }
+    let key = sized_key(key)?;
+    let nonce = nonce.as_array().ok_or(CipherFault::NonceLength)?;
     if associated.len() > MOST_BYTES {
         return Err(CipherFault::AssociatedDataLength);
     }
@@ -62,5 +83,5 @@ pub(crate) fn check_sizes(
     if tag.len() != tag_bytes(variant) {
         return Err(CipherFault::TagLength);
     }
-    Ok(())
+    Ok(Lawful { key, nonce })
 }

@@ -1,130 +1,115 @@
 // The key stream over a text, part by part, in groups of four.
-ghost use Rattle.std.specs.Prelude.{◌≡◌, ℕ, ◌+◌, ◌*◌, ◌<◌, ◌≤◌, length, Ok};
+ghost use Rattle.std.specs.Prelude.{◌≡◌, ℕ, ◌*◌, ◌≤◌, length, take, Ok};
 ghost use Rattle.engine.specs.Permutation.{block_size};
-ghost use Rattle.cipher.specs.Blocks.{xored, repeated, stream};
+ghost use Rattle.cipher.specs.Blocks.{padded, xored, repeated, stream};
 ghost use Rattle.cipher.specs.Masks.{phi1 as first_phi};
 ghost use Rattle.cipher.specs.Mode.{key_block, streamed};
-ghost use Rattle.cipher.specs.Groups.{group};
+ghost use Rattle.cipher.specs.Groups.{held, group};
 
-use crate::enciphering::encipher;
+use crate::enciphering::Keyed;
 use crate::faults::CipherFault;
-use crate::masks::masks_into;
+use crate::masks::{mask, phi1};
+use crate::sizes::{Block, Blocks, MOST_BLOCK_BYTES, MOST_GROUP_BYTES, NONCE_BYTES};
 use crate::xor::xor_into;
 use engine::Engine;
 
-// Writes a block so many times side by side.
-fn copies(block: &[u8], blocks: &mut [u8], count: usize)
-    requires { length blocks.old ≡ count * length block.now }
-    ensures { blocks.new ≡ stream (λ _. block.now) count 0 }
+// How often phi2 is applied to the masks of the key stream.
+const TURNS: usize = 1;
+
+// Writes a block four times side by side.
+fn copies(block: &[u8], blocks: &mut Blocks)
+    requires { length block.now ≤ 25 }
+    ensures { take (4 * length block.now) blocks.new ≡ stream (λ _. block.now) 4 0 }
 {
     let n = block.len();
-    for q in 0..count {
+    // By the place, since a proof knows no byte of the blocks after a loop over `chunks_exact_mut`.
+    for q in 0..4 {
         blocks[q * n..q * n + n].copy_from_slice(block);
     }
 }
 
-// Writes so many blocks of the key stream, from the running mask on, and steps the mask past them.
-fn key_blocks<E: Engine>(
-    engine: &E,
-    nonce_block: &[u8],
-    running: &mut [u8],
-    masks: &mut [u8],
-    blocks: &mut [u8],
-    spare: &mut [u8],
-    count: usize,
-) -> Result<(), CipherFault>
-    requires nonce { length nonce_block.now ≡ block_size (E.kind engine.now) }
-    requires running { length running.old ≡ block_size (E.kind engine.now) }
-    requires masks { length masks.old ≡ count * block_size (E.kind engine.now) }
-    requires blocks { length blocks.old ≡ count * block_size (E.kind engine.now) }
-    requires spare { length spare.old ≡ block_size (E.kind engine.now) }
-    ensures granted { result ≡ Ok tt }
-    ensures blocks { blocks.new ≡ stream (key_block (E.kind engine.now) running.old nonce_block.now) count 0 }
-    ensures running { running.new ≡ repeated (first_phi (E.kind engine.now)) count running.old }
-{
-    let v = engine.variant();
-    masks_into(v, running, 1, masks, count, spare);
-    copies(nonce_block, blocks, count);
-    encipher(engine, masks, blocks, count)
-}
-
-// Writes a part of at most four blocks under the key stream: four blocks of it, or one where that is enough.
-fn stream_group<E: Engine>(
-    engine: &E,
-    nonce_block: &[u8],
-    running: &mut [u8],
-    part: &[u8],
-    out: &mut [u8],
-    masks: &mut [u8],
-    blocks: &mut [u8],
-    spare: &mut [u8],
-) -> Result<(), CipherFault>
-    requires nonce { length nonce_block.now ≡ block_size (E.kind engine.now) }
-    requires running { length running.old ≡ block_size (E.kind engine.now) }
-    requires out { length out.old ≡ length part.now }
-    requires masks { length masks.old ≡ 4 * block_size (E.kind engine.now) }
-    requires blocks { length blocks.old ≡ 4 * block_size (E.kind engine.now) }
-    requires spare { length spare.old ≡ block_size (E.kind engine.now) }
-    ensures granted { result ≡ Ok tt }
-    ensures out { out.new ≡ xored part.now (stream (key_block (E.kind engine.now) running.old nonce_block.now) (group (E.kind engine.now) part.now) 0) }
-    ensures running { running.new ≡ repeated (first_phi (E.kind engine.now)) (group (E.kind engine.now) part.now) running.old }
-{
-    let n = nonce_block.len();
-    out.copy_from_slice(part);
-    if part.len() > n {
-        key_blocks(engine, nonce_block, running, masks, blocks, spare, 4)?;
-        xor_into(out, blocks);
-        return Ok(());
+impl<'e, E: Engine> Keyed<'e, E> {
+    // Writes a block of the key stream, under the running mask, and steps that on.
+    fn key_block(
+        &self,
+        nonce: &Block,
+        running: &mut Block,
+        block: &mut Block,
+    ) -> Result<(), CipherFault>
+        ensures granted { result ≡ Ok tt }
+        ensures block { let v = E.kind self.now.engine.now in held v block.new ≡ key_block v (held v running.old) (held v nonce.now) 0 }
+        ensures running { let v = E.kind self.now.engine.now in held v running.new ≡ first_phi v (held v running.old) }
+    {
+        let variant = self.engine.variant();
+        *block = *nonce;
+        self.encipher(&mask(variant, running, TURNS), block)?;
+        phi1(variant, running);
+        Ok(())
     }
-    let first = &mut blocks[0..n];
-    key_blocks(
-        engine,
-        nonce_block,
-        running,
-        &mut masks[0..n],
-        first,
-        spare,
-        1,
-    )?;
-    xor_into(out, first);
-    Ok(())
-}
 
-// Writes the text under the key stream, from the running mask on.
-pub(crate) fn stream_text<E: Engine>(
-    engine: &E,
-    nonce_block: &[u8],
-    running: &mut [u8],
-    text: &[u8],
-    out: &mut [u8],
-    masks: &mut [u8],
-    blocks: &mut [u8],
-    spare: &mut [u8],
-) -> Result<(), CipherFault>
-    requires nonce { length nonce_block.now ≡ block_size (E.kind engine.now) }
-    requires running { length running.old ≡ block_size (E.kind engine.now) }
-    requires out { length out.old ≡ length text.now }
-    requires masks { length masks.old ≡ 4 * block_size (E.kind engine.now) }
-    requires blocks { length blocks.old ≡ 4 * block_size (E.kind engine.now) }
-    requires spare { length spare.old ≡ block_size (E.kind engine.now) }
-    ensures granted { result ≡ Ok tt }
-    ensures out { out.new ≡ streamed (E.kind engine.now) running.old nonce_block.now text.now }
-{
-    let n = nonce_block.len();
-    let mut at = 0;
-    while at < text.len() {
-        let end = at + (4 * n).min(text.len() - at);
-        stream_group(
-            engine,
-            nonce_block,
-            running,
-            &text[at..end],
-            &mut out[at..end],
-            masks,
-            blocks,
-            spare,
-        )?;
-        at = end;
+    // Writes four blocks of the key stream, from the running mask on, and steps the mask past them.
+    fn key_blocks(
+        &self,
+        nonce: &Block,
+        running: &mut Block,
+        blocks: &mut Blocks,
+    ) -> Result<(), CipherFault>
+        ensures granted { result ≡ Ok tt }
+        ensures blocks { let v = E.kind self.now.engine.now in take (4 * block_size v) blocks.new ≡ stream (key_block v (held v running.old) (held v nonce.now)) 4 0 }
+        ensures running { let v = E.kind self.now.engine.now in held v running.new ≡ repeated (first_phi v) 4 (held v running.old) }
+    {
+        copies(&nonce[0..self.engine.variant().block_bytes()], blocks);
+        self.encipher_four(running, TURNS, blocks)
     }
-    Ok(())
+
+    // Writes a part of at most four blocks under the key stream: four blocks of it, or one where that is enough.
+    fn stream_group(
+        &self,
+        nonce: &Block,
+        running: &mut Block,
+        part: &[u8],
+        out: &mut [u8],
+    ) -> Result<(), CipherFault>
+        requires { length out.old ≡ length part.now }
+        ensures granted { result ≡ Ok tt }
+        ensures out { let v = E.kind self.now.engine.now in out.new ≡ xored part.now (stream (key_block v (held v running.old) (held v nonce.now)) (group v part.now) 0) }
+        ensures running { let v = E.kind self.now.engine.now in held v running.new ≡ repeated (first_phi v) (group v part.now) (held v running.old) }
+    {
+        let n = self.engine.variant().block_bytes();
+        out.copy_from_slice(part);
+        if part.len() > n {
+            let mut blocks = [0; MOST_GROUP_BYTES];
+            self.key_blocks(nonce, running, &mut blocks)?;
+            xor_into(out, &blocks[0..4 * n]);
+        } else {
+            let mut block = [0; MOST_BLOCK_BYTES];
+            self.key_block(nonce, running, &mut block)?;
+            xor_into(out, &block[0..n]);
+        }
+        Ok(())
+    }
+
+    // Writes a text under the key stream of a nonce.
+    pub(crate) fn stream(
+        &self,
+        nonce: &[u8; NONCE_BYTES],
+        text: &[u8],
+        out: &mut [u8],
+    ) -> Result<(), CipherFault>
+        requires { length out.old ≡ length text.now }
+        ensures granted { result ≡ Ok tt }
+        ensures out { let v = E.kind self.now.engine.now in out.new ≡ streamed v (held v self.now.first) (padded (block_size v) nonce.now) text.now }
+    {
+        let mut nonce_block = [0; MOST_BLOCK_BYTES];
+        nonce_block[0..NONCE_BYTES].copy_from_slice(nonce);
+        let mut running = self.first;
+        // The place is counted, since a proof knows no byte of `out` after a loop over `chunks` zipped with `chunks_mut`.
+        let mut at = 0;
+        for part in text.chunks(4 * self.engine.variant().block_bytes()) {
+            let end = at + part.len();
+            self.stream_group(&nonce_block, &mut running, part, &mut out[at..end])?;
+            at = end;
+        }
+        Ok(())
+    }
 }

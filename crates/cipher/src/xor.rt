@@ -8,8 +8,9 @@ pub(crate) fn xor_into(dst: &mut [u8], src: &[u8])
     ensures { dst.new ≡ xored dst.old src.now }
 {
     let n = dst.len().min(src.len());
-    for k in 0..n {
-        dst[k] = dst[k] ^ src[k];
+    // By the place, since a proof knows no byte of dst after a loop over `dst.iter_mut().zip(src)`.
+    for (k, byte) in src[0..n].iter().enumerate() {
+        dst[k] ^= *byte;
     }
 }
 
@@ -20,9 +21,5 @@ pub(crate) fn equal(a: &[u8], b: &[u8]) -> bool
     if a.len() != b.len() {
         return false;
     }
-    let mut d = 0u8;
-    for k in 0..a.len() {
-        d = d | (a[k] ^ b[k]);
-    }
-    d == 0
+    a.iter().zip(b).fold(0, |d, (x, y)| d | (x ^ y)) == 0
 }

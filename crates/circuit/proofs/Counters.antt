@@ -1,41 +1,29 @@
 -- The counter on words.
-use Rattle.std.proofs.Common.{◌≡◌, ℕ, ◌+◌, ◌-◌, ◌*◌, ◌/◌, ◌%◌, ◌^◌, ◌<◌, ◌≤◌, Bool, true, false, cond, not, eqb, ltb, List, [], ◌∷◌, length, sym, refl, ap, ◌∙◌, ap₂, ⊎_elim, zero-add, arith}
-use lib.Bits.{bit_xor}
+use Rattle.std.proofs.Common.{◌≡◌, ℕ, ◌+◌, ◌-◌, ◌*◌, ◌/◌, ◌%◌, ◌^◌, ◌<◌, ◌≤◌, Bool, true, false, cond, not, ltb, List, [], ◌∷◌, length, sym, refl, ap, ◌∙◌, ap₂, ⊎_elim, zero-add, arith}
 use Rattle.std.specs.Int.{reverse_bits_onto}
 use Rattle.std.proofs.lemmas.List.FromFn.{get_or-map-range_with_len}
 use Rattle.std.proofs.lemmas.Nat.{div_below, mod_below, div-add-mod'}
-use Rattle.std.proofs.lemmas.Bool.{cases_lt, lt-ltb, le-ltb, eqb-true, ltb-true}
+use Rattle.std.proofs.lemmas.Bool.{cases_lt, lt-ltb, le-ltb}
 use Rattle.engine.specs.Bits.{bit, differs}
-use Rattle.engine.specs.Spongent.{added, next, counted, count}
+use Rattle.engine.specs.Spongent.{added, counted, count}
 use Rattle.engine.proofs.Rotations.{bit_shl, bit_shl_low, bit_mod, bit_past}
 use Rattle.circuit.specs.Planes.{Bits, word_bit, Holds}
 use Rattle.circuit.proofs.Decide.{all_of, each_of}
 use Rattle.circuit.proofs.Fours.{by_four}
 
--- the next counter, computed for each of 128
-abbrev pub stepped : ℕ → ℕ
-stepped c = c * 2 % 128 + bit_xor (c / 64) (c / 32) % 2
-
-pub step_next : (c : ℕ) → c < 128 → stepped c ≡ next c
-unfolding next
-step_next c h = eqb-true (stepped c) (next c) (each_of 128 (λ c. eqb (stepped c) (next c)) refl c h)
-
-pub step_small : (c : ℕ) → c < 128 → stepped c < 128
-step_small c h = ltb-true (stepped c) 128 (each_of 128 (λ c. ltb (stepped c) 128) refl c h)
-
--- the reversed counter, computed for each of 128
+-- the reversed counter, computed for each of 256
 same : (a b : Bool) → not (differs a b) ≡ true → a ≡ b
 same true true e = refl
 same true false e = sym e
 same false true e = e
 same false false e = refl
 
-pub reversed_bit : (c k : ℕ) → c < 128 → k < 8 → bit (reverse_bits_onto 8 c 0) k ≡ bit c (7 - k)
+pub reversed_bit : (c k : ℕ) → c < 256 → k < 8 → bit (reverse_bits_onto 8 c 0) k ≡ bit c (7 - k)
 unfolding reverse_bits_onto
 reversed_bit c k hc hk =
     same (bit (reverse_bits_onto 8 c 0) k) (bit c (7 - k))
     (each_of 8 (λ k. not (differs (bit (reverse_bits_onto 8 c 0) k) (bit c (7 - k))))
-    (each_of 128 (λ c. all_of 8 (λ k. not (differs (bit (reverse_bits_onto 8 c 0) k) (bit c (7 - k))))) refl c hc) k hk)
+    (each_of 256 (λ c. all_of 8 (λ k. not (differs (bit (reverse_bits_onto 8 c 0) k) (bit c (7 - k))))) refl c hc) k hk)
 
 keeps : (b : Bool) → differs b false ≡ b
 keeps true = refl
@@ -49,7 +37,7 @@ alone false = refl
 added_is : (b c j : ℕ) (s t : Bool) → ltb j 8 ≡ s → ltb j (b - 8) ≡ t → added b c j ≡ differs (cond s (bit c j) false) (cond t false (bit c (b - 1 - j)))
 added_is b c j s t p q = ap₂ (λ x y. differs (cond x (bit c j) false) (cond y false (bit c (b - 1 - j)))) p q
 
-module _ (m c : ℕ) (low : 8 ≤ m) (small : m ≤ 64) (hc : c < 128) where
+module _ (m c : ℕ) (low : 8 ≤ m) (small : m ≤ 64) (hc : c < 256) where
   -- the reversed counter in the last byte of a word of m bits
   abbrev last : ℕ
   last = (reverse_bits_onto 8 c 0 * 2 ^ (m - 8)) % 2 ^ 64

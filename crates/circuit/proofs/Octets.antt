@@ -1,7 +1,8 @@
 -- Bytes in words, and words in bytes.
-use Rattle.std.proofs.Common.{◌≡◌, ℕ, zero, suc, ◌+◌, ◌-◌, ◌*◌, ◌/◌, ◌%◌, ◌^◌, ◌<◌, ◌≤◌, Bool, true, false, cond, ◌||◌, eqb, ltb, List, [], ◌∷◌, length, get_or, sym, refl, ap, ◌∙◌, ap₂, ⊎_elim, mod-eq_of_lt, suc-mul, one-mul, zero-add, add-one, arith, pow_pos, pow_mono}
+use Rattle.std.proofs.Common.{◌≡◌, ℕ, zero, suc, ◌+◌, ◌-◌, ◌*◌, ◌/◌, ◌%◌, ◌^◌, ◌<◌, ◌≤◌, Bool, true, false, cond, ◌||◌, eqb, ltb, List, [], ◌∷◌, length, get_or, sym, refl, ap, ◌∙◌, ap₂, ⊎_elim, mod-eq_of_lt, suc-mul, one-mul, zero-add, add-one, arith, pow_pos, pow_mono, w64}
 use lib.Bits.{bit_and, bit_or, and_mask}
-use Rattle.std.proofs.lemmas.Nat.{div_below, mod_below, mod-pow-add, div-mul-add, mod-mul-add, div-add-mod'}
+use Rattle.std.specs.Int.{from_le_bytes, to_le_bytes}
+use Rattle.std.proofs.lemmas.Nat.{le_bytes_8, div_below, mod_below, mod-pow-add, div-mul-add, mod-mul-add, div-add-mod'}
 use Rattle.std.proofs.lemmas.List.FromFn.{get_or-map-range_with_len}
 use Rattle.std.proofs.lemmas.Bool.{cases_lt, lt-ltb, le-ltb}
 use Rattle.engine.specs.Bits.{bit, one, word, bit_of, bits, block, byte_of, made}
@@ -11,37 +12,32 @@ use Rattle.engine.proofs.Numbers.{word_ext}
 use Rattle.engine.proofs.Filling.{made_ext}
 use Rattle.circuit.specs.Planes.{Bits, one_at, word_bit, block_bit, Holds}
 use Rattle.circuit.specs.Packed.{packed_bit}
-use Rattle.circuit.proofs.Decide.{all_of}
 use Rattle.circuit.proofs.Fours.{by_four}
 use Rattle.circuit.proofs.Shifts.{bit_up}
-use Rattle.circuit.proofs.Sources.{From, none, apart, higher, or_from, shl_from}
 
--- a number whose bits come from a source
-pub record Number (f : Bits) (s : ℕ → ℕ) (n : ℕ) : Type 0 where
-  pub from : From f s (bit n)
-
-pub or_number : {f : Bits} {s t : ℕ → ℕ} {m n : ℕ} → Number f s m → Number f t n → all_of 64 (apart s t) ≡ true → Number f (λ k. cond (eqb (s k) none) (t k) (s k)) (bit_or m n)
-or_number {f} {s} {t} {m} {n} a b e = record { from = or_from a.from b.from (λ k h. bit_of_or m n k) e }
-
-pub shl_number : {f : Bits} {s : ℕ → ℕ} {n : ℕ} (k : ℕ) → Number f s n → Number f (higher k s) ((n * 2 ^ k) % 2 ^ 64)
-shl_number {f} {s} {n} k a = record { from = shl_from k a.from (λ j h. bit_up 64 n k j h) }
-
--- the bits of six bytes from byte i on, and no others
-abbrev pub those : List ℕ → ℕ → Bits
-those xs i j = cond (ltb j 48) (bit_of xs (8 * i + j)) false
-
-pub byte_number : (xs : List ℕ) (i b : ℕ) → b < 6 → get_or xs (i + b) 0 < 256 → Number (those xs i) (λ k. cond (ltb k 8) (8 * b + k) none) (get_or xs (i + b) 0)
-byte_number xs i b hb h = record { from = record { void = refl; at = λ k l. ⊎_elim (inside k) (outside k) (cases_lt k 8) } }
+-- the bits of a number of eight bytes, the first one lowest, the first six of them those of xs from place i on
+pub six_bits : (xs bs : List ℕ) (i n k : ℕ) → k < 48 → length bs ≡ 8 → ((j : ℕ) → get_or bs j 0 < 256)
+    → ((j : ℕ) → j < 6 → get_or bs j 0 ≡ get_or xs (i + j) 0) → n ≡ from_le_bytes w64 bs → bit n k ≡ bit_of xs (8 * i + k)
+six_bits xs bs i n k h len small same e =
+    let j = k / 8 in
+    let r = k % 8 in
+    let hj : j < 6 = omega arith in
+    let hr : r < 8 = omega arith in
+    let split : k ≡ 8 * j + r = omega arith in
+    let row : i + j ≡ (8 * i + k) / 8 = omega arith in
+    let col : r ≡ (8 * i + k) % 8 = omega arith in
+    ap (bit n) split ∙ sym (bit_shr n (8 * j) r) ∙ sym (bit_mod (n / 2 ^ (8 * j)) 8 r hr)
+    ∙ ap (λ b. bit b r) (sym (byte j hj) ∙ ap (λ l. get_or l j 0) (le_bytes_8 bs n len small e) ∙ same j hj)
+    ∙ ap₂ (λ a b. bit (get_or xs a 0) b) row col
   where
-    inside : (k : ℕ) → k < 8 → bit (get_or xs (i + b) 0) k ≡ those xs i (cond (ltb k 8) (8 * b + k) none)
-    inside k u =
-        let row : i + b ≡ (8 * i + (8 * b + k)) / 8 = omega arith in
-        let col : k ≡ (8 * i + (8 * b + k)) % 8 = omega arith in
-        ap₂ (λ r c. bit (get_or xs r 0) c) row col
-        ∙ sym (ap (λ c. those xs i (cond c (8 * b + k) none)) (lt-ltb k 8 u) ∙ ap (λ c. cond c (bit_of xs (8 * i + (8 * b + k))) false) (lt-ltb (8 * b + k) 48 (omega arith)))
-
-    outside : (k : ℕ) → 8 ≤ k → bit (get_or xs (i + b) 0) k ≡ those xs i (cond (ltb k 8) (8 * b + k) none)
-    outside k u = bit_past (get_or xs (i + b) 0) 8 k h u ∙ sym (ap (λ c. those xs i (cond c (8 * b + k) none)) (le-ltb k 8 u))
+    byte : (j : ℕ) → j < 6 → get_or (to_le_bytes w64 n) j 0 ≡ n / 2 ^ (8 * j) % 2 ^ 8
+    byte zero h = omega arith
+    byte (suc zero) h = refl
+    byte (suc (suc zero)) h = refl
+    byte (suc (suc (suc zero))) h = refl
+    byte (suc (suc (suc (suc zero)))) h = refl
+    byte (suc (suc (suc (suc (suc zero))))) h = refl
+    byte (suc (suc (suc (suc (suc (suc j)))))) h = absurd (omega arith)
 
 -- a number from its lowest bits
 one_low : (x : ℕ) → one (bit x 0) ≡ x % 2

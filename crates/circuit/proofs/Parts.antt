@@ -1,17 +1,16 @@
--- Parts of a place that holds four blocks.
-use Rattle.std.proofs.Common.{◌≡◌, ℕ, ◌+◌, ◌-◌, ◌*◌, ◌<◌, ◌≤◌, List, length, take, drop, sym, ap, ◌∙◌, ap₂, mul-le-mul_right, arith}
-use Rattle.std.proofs.lemmas.List.{length-append, length-take-le, length-drop, drop_at}
+-- Parts of a place that holds blocks side by side.
+use Rattle.std.proofs.Common.{◌≡◌, ℕ, ◌+◌, ◌*◌, ◌<◌, ◌≤◌, Bool, true, false, cond, eqb, List, length, take, drop, sym, refl, ap, ◌∙◌, add-one, one-mul, suc-mul, mul-le-mul_right, arith}
+use Rattle.std.proofs.lemmas.List.{length-append, append-nil, length-take-le, length-drop, drop_at, take_all}
+use Rattle.std.proofs.lemmas.Bool.{eqb-true}
 use Rattle.engine.specs.Bits.{bits, block}
+use Rattle.engine.specs.Calls.{replaced}
 use Rattle.engine.specs.Permutation.{each}
 use Rattle.engine.specs.Spongent.{after, spongent}
 use Rattle.engine.proofs.Blocks.{Done}
 
--- block i of four
-pub within_four : (n i b : ℕ) → i < 4 → b ≡ 4 * n → i * n + n ≤ b
-within_four n i b hi e = let up : i * n ≤ 3 * n = mul-le-mul_right {m = i} {n = 3} n (omega arith) in omega arith
-
-pub part_is : (n i lo hi : ℕ) (xs : List ℕ) → hi - lo ≡ n → lo ≡ i * n → take (hi - lo) (drop lo xs) ≡ take n (drop (i * n) xs)
-part_is n i lo hi xs e f = ap₂ (λ a b. take a (drop b xs)) e f
+-- block i of several
+pub within : (n i blocks b : ℕ) → i < blocks → b ≡ blocks * n → i * n + n ≤ b
+within n i blocks b hi e = let up : (i + 1) * n ≤ blocks * n = mul-le-mul_right {m = i + 1} {n = blocks} n (omega arith) in let more : (i + 1) * n ≡ i * n + n = rw add-one (suc-mul i n) in omega arith
 
 pub part_length : (n k : ℕ) (xs : List ℕ) → k + n ≤ length xs → length (take n (drop k xs)) ≡ n
 part_length n k xs h = let rest = length-drop k xs in length-take-le n (drop k xs) (omega arith)
@@ -26,3 +25,12 @@ rest_same f n k xs ys same within done =
 pub part_done : (first rounds : ℕ) (old part new : List ℕ) → old ≡ part → new ≡ block (length old) (after first rounds (bits part)) → new ≡ spongent first rounds old
 unfolding spongent
 part_done first rounds old part new e is = is ∙ ap (λ v. block (length old) (after first rounds (bits v))) (sym e)
+
+-- one block is the only one
+pub one_part : (f : List ℕ → List ℕ) (n : ℕ) (xs : List ℕ) → replaced (1 * n) (each f n 1) xs ≡ replaced n f xs
+unfolding each
+one_part f n xs = ap (λ m. replaced m (each f n 1) xs) (one-mul n) ∙ by (eqb (length xs) n) refl
+  where
+    by : (b : Bool) → eqb (length xs) n ≡ b → cond b (each f n 1 xs) xs ≡ cond b (f xs) xs
+    by true e = let all : length xs ≡ n = eqb-true (length xs) n e in append-nil (f (take n xs)) ∙ ap f (take_all n xs (omega arith))
+    by false e = refl

@@ -66,9 +66,6 @@ moved_up f s b n k h a =
     (λ l. ap (λ t. cond t false (b (k - n))) (le-ltb k n l) ∙ a.at (k - n) (omega arith) ∙ ap (λ t. f (cond t none (s (k - n)))) (sym (le-ltb k n l)))
     (cases_lt k n)
 
-pub shl_from : {f : Bits} {s : ℕ → ℕ} {b r : Bits} (n : ℕ) → From f s b → ((k : ℕ) → k < 64 → r k ≡ cond (ltb k n) false (b (k - n))) → From f (higher n s) r
-shl_from {f} {s} {b} n a e = record { void = a.void; at = λ k h. e k h ∙ moved_up f s b n k h a }
-
 pub down_from : {f : Bits} {s : ℕ → ℕ} {b r : Bits} {n m : ℕ} → From f s b → Lowered n m b r
     → From f (λ k. cond (bit m k) (lower n s k) none) r
 down_from {f} {s} {b} {r} {n} {m} a e =

@@ -1,5 +1,5 @@
 -- Blocks in words, and what the steps of a round do to them: the terms of the contracts between the functions of this crate.
-use Rattle.std.specs.Prelude.{◌≡◌, ℕ, ◌+◌, ◌*◌, ◌/◌, ◌%◌, ◌<◌, ◌≤◌, Bool, false, List, [], ◌∷◌, slice_index, slice_index_or}
+use Rattle.std.specs.Prelude.{◌≡◌, ℕ, ◌+◌, ◌*◌, ◌/◌, ◌%◌, ◌<◌, ◌≤◌, Bool, false, List, [], ◌∷◌, take, drop, slice_index, slice_index_or}
 use Rattle.engine.specs.Bits.{bit, one}
 use Rattle.engine.specs.Spongent.{table}
 use Rattle.circuit.specs.declared.planes.Planes.{Planes}
@@ -58,3 +58,7 @@ Gathered m ws ps = (k t : ℕ) → k < m → t < 4 → word_bit ps t k ≡ block
 -- The words, of m bits each, hold the bits bs.
 abbrev pub Holds : ℕ → List Bits → List Bool → Type 0
 Holds m ws bs = (j : ℕ) → j < m * 4 → block_bit m ws j ≡ slice_index_or bs j false
+
+-- Block i of blocks of n bytes side by side.
+abbrev pub part : ℕ → ℕ → List ℕ → List ℕ
+part n i xs = take n (drop (i * n) xs)

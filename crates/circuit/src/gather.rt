@@ -3,21 +3,22 @@
 // places between rows.
 ghost use Rattle.std.specs.Prelude.{ℕ, ◌<◌};
 ghost use Rattle.circuit.specs.Moves.{Lowered, Raised, Crossed};
-ghost use Rattle.circuit.specs.Planes.{Wide, of_block, InRows, Unzipped, Gathered};
+ghost use Rattle.circuit.specs.Planes.{of_block, Unzipped, Gathered};
 
+use crate::family::Spongent;
 use crate::planes::Planes;
 use crate::words::Word;
 
 // The bits of x moved n places down, where the mask has ones.
-fn cut_down<W: Word>(x: W, n: u32, mask: u64) -> W
+pub(crate) fn cut_down<W: Word>(x: W, n: u32, mask: u64) -> W
     requires { n < 64 }
     ensures { (i : ℕ) → Lowered n mask (W.at x i) (W.at result i) }
 {
     x.down(n).and(W::all(mask))
 }
 
-// The bits of x moved n places up, where the mask has ones.
-fn cut_up<W: Word>(x: W, n: u32, mask: u64) -> W
+// The bits of x moved n places up, where the mask has ones. Down and up are two functions, since one with a sign would have to look at it.
+pub(crate) fn cut_up<W: Word>(x: W, n: u32, mask: u64) -> W
     requires { n < 64 }
     ensures { (i : ℕ) → Raised n mask (W.at x i) (W.at result i) }
 {
@@ -43,45 +44,6 @@ fn cross<W: Word>(lo: W, hi: W, n: u32, mask: u64) -> Pair<W>
     }
 }
 
-// The rows of a block in words of 40 bits.
-fn rows40<W: Word>(p: Planes<W>) -> Planes<W>
-    ensures { (i : ℕ) → InRows 40 (of_block W.at p i) (of_block W.at result i) }
-{
-    let a = cut_down(p.a, 0, 0xFFFF)
-        .or(cut_down(p.b, 8, 0xFFFF0000))
-        .or(cut_up(p.d, 24, 0xFFFF00000000));
-    let b = cut_down(p.a, 16, 0xFFFF)
-        .or(cut_up(p.c, 16, 0xFFFF0000))
-        .or(cut_up(p.d, 8, 0xFFFF00000000));
-    let c = cut_down(p.a, 32, 0xFF)
-        .or(cut_up(p.b, 8, 0xFF00))
-        .or(cut_down(p.c, 0, 0xFFFF0000));
-    let d = cut_down(p.b, 8, 0xFFFF)
-        .or(cut_down(p.c, 16, 0xFF0000))
-        .or(cut_up(p.d, 24, 0xFF000000));
-    Planes { a, b, c, d }
-}
-
-// The rows of a block in words of 44 bits.
-fn rows44<W: Word>(p: Planes<W>) -> Planes<W>
-    ensures { (i : ℕ) → InRows 44 (of_block W.at p i) (of_block W.at result i) }
-{
-    let a = cut_down(p.a, 0, 0xFFFF)
-        .or(cut_down(p.b, 4, 0xFFFF0000))
-        .or(cut_down(p.c, 8, 0xF00000000))
-        .or(cut_up(p.d, 36, 0xFFF000000000));
-    let b = cut_down(p.a, 16, 0xFFFF)
-        .or(cut_down(p.b, 20, 0xFF0000))
-        .or(cut_up(p.c, 24, 0xFF000000))
-        .or(cut_up(p.d, 20, 0xFFFF00000000));
-    let c = cut_down(p.a, 32, 0xFFF)
-        .or(cut_up(p.b, 12, 0xF000))
-        .or(cut_up(p.c, 8, 0xFFFF0000))
-        .or(cut_up(p.d, 4, 0xFFFF00000000));
-    let d = cut_down(p.b, 4, 0xFFFF).or(cut_down(p.c, 8, 0xFFFF0000));
-    Planes { a, b, c, d }
-}
-
 // Gathers the bits of four rows. The first four exchanges swap bits 2 and 3 of a bit's place in its row with the row's number,
 // and the others bits 0 and 1.
 fn unzip<W: Word>(r: Planes<W>) -> Planes<W>
@@ -103,14 +65,9 @@ fn unzip<W: Word>(r: Planes<W>) -> Planes<W>
     }
 }
 
-// Gathers the bits of a block in words of WIDTH bits, 40 or 44.
-pub(crate) fn gather<W: Word, const WIDTH: u32>(p: Planes<W>) -> Planes<W>
-    requires { Wide WIDTH }
-    ensures { (i : ℕ) → Gathered WIDTH (of_block W.at p i) (of_block W.at result i) }
+// Gathers the bits of a block.
+pub(crate) fn gather<S: Spongent, W: Word>(p: Planes<W>) -> Planes<W>
+    ensures { (i : ℕ) → Gathered S.WIDTH (of_block W.at p i) (of_block W.at result i) }
 {
-    if WIDTH == 40 {
-        unzip(rows40(p))
-    } else {
-        unzip(rows44(p))
-    }
+    unzip(S::rows(p))
 }

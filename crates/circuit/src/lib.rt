@@ -4,6 +4,7 @@
 mod blocks;
 mod bytes;
 mod circuit_engine;
+mod family;
 mod gates;
 mod gather;
 mod planes;

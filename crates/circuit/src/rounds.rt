@@ -1,60 +1,44 @@
 // The rounds of Spongent on words.
 ghost use Rattle.std.specs.Prelude.{◌≡◌, ℕ, ◌*◌, ◌<◌, Bool, List, length};
-ghost use Rattle.engine.specs.Spongent.{next, count, round, after};
-ghost use Rattle.circuit.specs.Planes.{Wide, of_block, Holds};
+ghost use Rattle.engine.specs.Spongent.{count, round, after};
+ghost use Rattle.circuit.specs.Planes.{of_block, Holds};
 
+use crate::family::Spongent;
 use crate::gates::substitute;
 use crate::gather::gather;
 use crate::planes::Planes;
 use crate::words::Word;
-
-// The counter of the next round.
-fn step(c: u8) -> u8
-    requires { c < 128 }
-    ensures { (result ≡ next c) × (result < 128) }
-{
-    c * 2 % 128 + ((c >> 6) ^ (c >> 5)) % 2
-}
+use engine::next_counter;
 
 // Adds the counter to the first byte, and its reversal to the last.
-fn add_counter<W: Word, const WIDTH: u32>(p: Planes<W>, c: u8) -> Planes<W>
-    requires { (Wide WIDTH) × (c < 128) }
-    ensures { (i : ℕ) (bs : List Bool) → length bs ≡ WIDTH * 4 → Holds WIDTH (of_block W.at p i) bs → Holds WIDTH (of_block W.at result i) (count c bs) }
+fn add_counter<S: Spongent, W: Word>(p: Planes<W>, c: u8) -> Planes<W>
+    ensures { (i : ℕ) (bs : List Bool) → length bs ≡ S.WIDTH * 4 → Holds S.WIDTH (of_block W.at p i) bs → Holds S.WIDTH (of_block W.at result i) (count c bs) }
 {
     let first = W::all(c as u64);
-    let last = W::all((c.reverse_bits() as u64) << (WIDTH - 8));
+    let last = W::all((c.reverse_bits() as u64) << (S::WIDTH - 8));
     Planes {
         a: p.a.xor(first),
-        b: p.b,
-        c: p.c,
         d: p.d.xor(last),
+        ..p
     }
 }
 
 // One round. The words that come out of the circuit, one after another, are the block with its bits moved.
-fn one_round<W: Word, const WIDTH: u32>(p: Planes<W>, c: u8) -> Planes<W>
-    requires { (Wide WIDTH) × (c < 128) }
-    ensures { (i : ℕ) (bs : List Bool) → length bs ≡ WIDTH * 4 → Holds WIDTH (of_block W.at p i) bs → Holds WIDTH (of_block W.at result i) (round c bs) }
+fn one_round<S: Spongent, W: Word>(p: Planes<W>, c: u8) -> Planes<W>
+    ensures { (i : ℕ) (bs : List Bool) → length bs ≡ S.WIDTH * 4 → Holds S.WIDTH (of_block W.at p i) bs → Holds S.WIDTH (of_block W.at result i) (round c bs) }
 {
-    let q = add_counter::<W, WIDTH>(p, c);
-    let g = gather::<W, WIDTH>(q);
-    substitute(g)
+    substitute(gather::<S, W>(add_counter::<S, W>(p, c)))
 }
 
-// All rounds of Spongent on blocks in words of WIDTH bits, where the counter starts at `first`.
-pub(crate) fn all_rounds<W: Word, const WIDTH: u32>(
-    p: Planes<W>,
-    first: u8,
-    rounds: u8,
-) -> Planes<W>
-    requires { (Wide WIDTH) × (first < 128) }
-    ensures { (i : ℕ) (bs : List Bool) → length bs ≡ WIDTH * 4 → Holds WIDTH (of_block W.at p i) bs → Holds WIDTH (of_block W.at result i) (after first rounds bs) }
+// All rounds of Spongent on blocks in words.
+pub(crate) fn all_rounds<S: Spongent, W: Word>(p: Planes<W>) -> Planes<W>
+    ensures { (i : ℕ) (bs : List Bool) → length bs ≡ S.WIDTH * 4 → Holds S.WIDTH (of_block W.at p i) bs → Holds S.WIDTH (of_block W.at result i) (after S.FIRST S.ROUNDS bs) }
 {
-    let mut c = first;
+    let mut c = S::FIRST;
     let mut q = p;
-    for n in 0..rounds {
-        q = one_round::<W, WIDTH>(q, c);
-        c = step(c);
+    for _ in 0..S::ROUNDS {
+        q = one_round::<S, W>(q, c);
+        c = next_counter(c);
     }
     q
 }

@@ -1,19 +1,10 @@
 -- Where a bit goes, and which one comes.
-use Rattle.std.proofs.Common.{◌≡◌, ℕ, suc, ◌+◌, ◌-◌, ◌*◌, ◌/◌, ◌%◌, ◌<◌, Bool, false, List, length, get_or, sym, ap, ◌∙◌, ap₂, ⊎_elim, mul-le-mul_right, mod-eq_of_lt, mul_assoc, add-mul, mul-suc, arith}
+use Rattle.std.proofs.Common.{◌≡◌, ℕ, suc, ◌+◌, ◌-◌, ◌*◌, ◌/◌, ◌%◌, ◌<◌, ◌≤◌, Bool, false, List, length, get_or, sym, ap, ◌∙◌, ap₂, ⊎_elim, mul-le-mul_right, mod-eq_of_lt, mul_assoc, add-mul, mul-suc, arith}
 use native.Mathlib.Nat.{mul-add-mod_self_right}
 use Rattle.std.proofs.lemmas.Bool.{cases_eq, cases_lt, eq-eqb, ne_eqb}
-use Rattle.std.proofs.lemmas.Nat.{div_below, mod_below, div-add-mod', mul-add-lt, mod-mul-add, div-mul-add}
+use Rattle.std.proofs.lemmas.Nat.{mul-add-lt, mod-mul-add, div-mul-add}
 use Rattle.std.proofs.lemmas.List.FromFn.{get_or-map-range_with_len}
-use Rattle.engine.specs.Spongent.{place, source, move, moved}
-
-pub source_lt : (b p : ℕ) → b % 4 ≡ 0 → p < b → source b p < b
-source_lt b p four h =
-    let m = b / 4 in
-    let whole : b / 4 * 4 + b % 4 ≡ b = div-add-mod' b 4 in
-    let some : 0 < b / 4 = omega arith in
-    let row : p / (b / 4) < 4 = div_below p (b / 4) 4 some (omega arith) in
-    let col : p % (b / 4) < b / 4 = mod_below p (b / 4) some in
-    omega arith
+use Rattle.engine.specs.Spongent.{place, move, moved}
 
 -- bit 4 k + i goes to place i (b / 4) + k
 pub place_is : (m k i : ℕ) → k < m → i < 4 → place (m * 4) (k * 4 + i) ≡ i * m + k
@@ -31,7 +22,7 @@ place_is m k i hk hi = ⊎_elim last other (cases_eq (k * 4 + i) (m * 4 - 1))
         let next : 4 * m ≡ suc t = omega arith in
         let whole : (k * 4 + i) * m ≡ k * t + (i * m + k) =
         add-mul (k * 4) i m ∙ ap (λ x. x + i * m) (mul_assoc k 4 m ∙ ap (λ x. k * x) next ∙ mul-suc k t) ∙ omega arith in
-        let below : i * m + k < t = ⊎_elim (λ h. omega (arith, mul-le-mul_right {m = i} {n = 2} m (omega arith))) (λ h. let three : i ≡ 3 = omega arith in rw three (omega arith)) (cases_lt i 3) in
+        let below : i * m + k < t = ⊎_elim (λ h. omega (arith, mul-le-mul_right {m = i} {n = 2} m (omega arith))) (λ (h : 3 ≤ i). let three : i ≡ 3 = omega arith in rw three (omega arith)) (cases_lt i 3) in
         rw (ne_eqb (k * 4 + i) (m * 4 - 1) n, quarter, whole, mul-add-mod_self_right k t (i * m + k)) (mod-eq_of_lt below)
 
 -- bit j of the block comes to the place that the rule gives it

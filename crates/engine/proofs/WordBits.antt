@@ -1,8 +1,8 @@
 -- A word's bits, gate by gate.
-use Rattle.std.proofs.Common.{◌≡◌, ℕ, ◌-◌, ◌^◌, ◌<◌, Bool, not, ◌&&◌, ◌||◌, refl, ap, ◌∙◌, ap₂, arith, pow_pos}
-use lib.Bits.{bit_and, bit_or, bit_xor, or_lt, xor_lt, and_lt}
+use Rattle.std.proofs.Common.{◌≡◌, ℕ, ◌-◌, ◌^◌, ◌<◌, Bool, not, ◌&&◌, refl, ap, ◌∙◌, ap₂, arith, pow_pos}
+use lib.Bits.{bit_and, bit_xor, xor_lt, and_lt}
 use Rattle.engine.specs.Bits.{bit, differs}
-use Rattle.engine.proofs.BitLaws.{bit_of_and, bit_of_or, bit_of_xor, bit_not}
+use Rattle.engine.proofs.BitLaws.{bit_of_and, bit_of_xor, bit_not}
 
 -- the word n of w bits has the bit x at place k
 pub record Has (w k n : ℕ) (x : Bool) : Type 0 where
@@ -15,10 +15,6 @@ own w k n h = record { small = h; is = refl }
 pub and_has : {w k m n : ℕ} {x y : Bool} → Has w k m x → Has w k n y → Has w k (bit_and m n) (x && y)
 and_has {w} {k} {m} {n} p q =
     record { small = and_lt w m n p.small q.small; is = bit_of_and m n k ∙ ap₂ (λ a b. a && b) p.is q.is }
-
-pub or_has : {w k m n : ℕ} {x y : Bool} → Has w k m x → Has w k n y → Has w k (bit_or m n) (x || y)
-or_has {w} {k} {m} {n} p q =
-    record { small = or_lt w m n p.small q.small; is = bit_of_or m n k ∙ ap₂ (λ a b. a || b) p.is q.is }
 
 pub xor_has : {w k m n : ℕ} {x y : Bool} → Has w k m x → Has w k n y → Has w k (bit_xor m n) (differs x y)
 xor_has {w} {k} {m} {n} p q =

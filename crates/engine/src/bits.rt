@@ -1,66 +1,74 @@
-// The bits of a block as a list, and layers of a permutation, each given by the rule for one bit of its result.
-ghost use Rattle.std.specs.Prelude.{◌≡◌, ℕ, ◌+◌, ◌*◌, ◌^◌, ◌<◌, ◌≤◌, Bool, List, length};
+// The bits of a block as an array, and layers of a permutation, each given by the rule for one bit of its result.
+ghost use Rattle.std.specs.Prelude.{◌≡◌, ℕ, ◌*◌, ◌^◌, ◌<◌, ◌≤◌, Bool, List, length};
 ghost use Rattle.engine.specs.Bits.{bit, bits, block, value, made};
 
+use std::array;
+
 // Bit k of a byte.
-pub(crate) fn get(x: u8, k: u8) -> bool
+pub(crate) fn get(x: u8, k: usize) -> bool
     requires { k < 8 }
     ensures { result ≡ bit x k }
 {
     (x >> k) % 2 == 1
 }
 
-// The number whose bits are those of s from place p on, w of them, the lowest first.
-pub(crate) fn number(s: &[bool], p: usize, w: usize) -> u8
-    requires { (p + w ≤ length s.now) × (w ≤ 8) }
-    ensures { (result ≡ value s.now p w) × (result < 2 ^ w) }
+// The number that has these bits, the lowest first.
+pub(crate) fn number(bits: &[bool]) -> u8
+    requires { length bits.now ≤ 8 }
+    ensures { (result ≡ value bits.now 0 (length bits.now)) × (result < 2 ^ length bits.now) }
 {
-    let mut x: u8 = 0;
-    for i in 0..w {
-        x = s[p + (w - 1 - i)] as u8 + 2 * x;
+    let mut n = 0;
+    for b in bits.iter().rev() {
+        n = u8::from(*b) + 2 * n;
     }
-    x
+    n
 }
 
-// Writes the bits of a block.
-pub(crate) fn unpack(old: &[u8], new: &mut [bool])
-    requires { length new.old ≡ 8 * length old.now }
-    ensures { new.new ≡ bits old.now }
+// The bits of a block. That there are eight for each byte is asked for, since the bytes are a slice, of which no type says it.
+pub(crate) fn unpack<const BITS: usize>(block: &[u8]) -> [bool; BITS]
+    requires { BITS ≡ 8 * length block.now }
+    ensures { result ≡ bits block.now }
 {
-    for j in 0..new.len() {
-        new[j] = get(old[j / 8], (j % 8) as u8);
-    }
+    array::from_fn(|j| get(block[j / 8], j % 8))
 }
 
 // Writes the block that has these bits.
-pub(crate) fn pack(old: &[bool], new: &mut [u8])
-    requires { length old.now ≡ 8 * length new.old }
-    ensures { new.new ≡ block (length new.old) old.now }
+pub(crate) fn pack<const BITS: usize>(bits: &[bool; BITS], out: &mut [u8])
+    requires { BITS ≡ 8 * length out.old }
+    ensures { out.new ≡ block (length out.old) bits.now }
 {
-    for k in 0..new.len() {
-        new[k] = number(old, 8 * k, 8);
+    // Each byte finds its bits by its place: of bytes written under a `zip` nothing is known afterwards but how many they are.
+    let bits = &bits[..];
+    for (k, byte) in out.iter_mut().enumerate() {
+        *byte = number(&bits[8 * k..8 * k + 8]);
     }
 }
 
-// A layer of a permutation, by the rule that gives bit j of its result.
-pub(crate) trait Layer {
+// A layer of a permutation of so many bits, by the rule that gives bit j of its result.
+pub(crate) trait Layer<const BITS: usize> {
     ghost rule: { Self → List Bool → ℕ → Bool };
-    // The numbers of bits that the layer is for.
-    ghost suits: { ℕ → Type 0 };
+    // What the layer asks of the number of bits.
+    ghost suits: { Type 0 };
 
-    fn bit(&self, old: &[bool], j: usize) -> bool
-        requires suits { suits (length old.now) }
-        requires inside { j < length old.now }
+    fn bit(&self, old: &[bool; BITS], j: usize) -> bool
+        requires suits { suits }
+        requires inside { j < BITS }
         ensures { result ≡ rule self.now old.now j };
 }
 
-// Writes what the layer makes of the old bits.
-pub(crate) fn apply<L: Layer>(layer: &L, old: &[bool], new: &mut [bool])
-    requires suits { L.suits (length old.now) }
-    requires long { length new.old ≡ length old.now }
-    ensures { new.new ≡ made (length old.now) (L.rule layer.now old.now) }
+// What the layer makes of the bits.
+pub(crate) fn apply<L: Layer<BITS>, const BITS: usize>(
+    layer: &L,
+    old: &[bool; BITS],
+) -> [bool; BITS]
+    requires { L.suits }
+    ensures { result ≡ made (length old.now) (L.rule layer.now old.now) }
 {
-    for j in 0..new.len() {
-        new[j] = layer.bit(old, j);
-    }
+    array::from_fn(
+        |j: usize| -> bool
+            requires suits { L.suits }
+            requires inside { j < BITS }
+            ensures { result ≡ L.rule layer.entry.now old.entry.now j }
+        { layer.bit(old, j) },
+    )
 }

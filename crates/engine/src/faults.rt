@@ -1,8 +1,7 @@
 // Why an engine refuses a call.
-ghost use Rattle.std.specs.Prelude.{◌≡◌};
 ghost use Rattle.engine.specs.Faults.{fault_number, fault_layer, fault_place};
 
-use fault::{Layer, Place};
+use fault::{Fault, Layer, Place};
 
 #[derive(Clone, Copy, PartialEq, Eq, Debug)]
 pub enum EngineFault {
@@ -10,26 +9,26 @@ pub enum EngineFault {
     BlockLength,
 }
 
-impl EngineFault {
-    pub fn number(self) -> u8
-        ensures { result ≡ fault_number self }
-    {
+impl Fault for EngineFault {
+    ghost number_is = { fault_number };
+
+    ghost layer_is = { fault_layer };
+
+    ghost place_is = { fault_place };
+
+    fn number(self) -> u8 {
         match self {
             EngineFault::BlockLength => 6,
         }
     }
 
-    pub fn layer(self) -> Layer
-        ensures { result ≡ fault_layer self }
-    {
+    fn layer(self) -> Layer {
         match self {
             EngineFault::BlockLength => Layer::Engine,
         }
     }
 
-    pub fn place(self) -> Place
-        ensures { result ≡ fault_place self }
-    {
+    fn place(self) -> Place {
         match self {
             EngineFault::BlockLength => Place::Zero,
         }

@@ -30,6 +30,7 @@ pub trait Engine {
         if blocks.len() != 4 * n {
             return Err(EngineFault::BlockLength);
         }
+        // Indexed, since of a slice that `chunks_exact_mut` has lent nothing is known afterwards but its length.
         for i in 0..4 {
             self.one(&mut blocks[i * n..i * n + n])?;
         }

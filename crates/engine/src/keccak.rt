@@ -1,51 +1,80 @@
 // Keccak-f[200], bit by bit.
-ghost use Rattle.std.specs.Prelude.{◌≡◌, ℕ, ◌+◌, ◌*◌, ◌/◌, ◌%◌, ◌<◌, ◌≤◌, Bool, ◌&&◌, List, length};
-ghost use Rattle.engine.specs.Bits.{bit};
-ghost use Rattle.engine.specs.Keccak.{a, at, column, theta_at, rho_at, pi_at, chi_at, iota_at, round, after, keccak};
+ghost use Rattle.std.specs.Prelude.{◌≡◌, ℕ, ◌*◌, ◌/◌, ◌%◌, ◌<◌, Bool, List, length};
+ghost use Rattle.engine.specs.Keccak.{a, at, column, theta_at, rho_at, pi_at, chi_at, iota_at, round, keccak};
 
 use crate::bits::{Layer, apply, get, pack, unpack};
 
-// Bit (x, y, z) of a state.
-fn cell(s: &[bool], x: usize, y: usize, z: usize) -> bool
-    requires { (length s.now ≡ 200) × ((x < 5) × ((y < 5) × (z < 8))) }
-    ensures { result ≡ a s.now x y z }
-{
-    s[8 * (5 * y + x) + z]
+const BITS: usize = 200;
+
+type State = [bool; BITS];
+
+// Where a bit of a state stands: it is bit z of lane (x, y).
+#[derive(Clone, Copy)]
+struct Cell {
+    x: usize,
+    y: usize,
+    z: usize,
+    ghost inside: { (x < 5) × ((y < 5) × (z < 8)) },
 }
 
-// Lane and bit in the lane of bit j.
-fn coordinates(j: usize) -> (usize, usize, usize)
-    requires { j < 200 }
-    ensures are { result ≡ (j / 8 % 5, j / 8 / 5, j % 8) }
-    ensures inside { (result.0 < 5) × ((result.1 < 5) × (result.2 < 8)) }
-{
-    (j / 8 % 5, j / 8 / 5, j % 8)
-}
+impl Cell {
+    // Where bit j stands.
+    fn of(j: usize) -> Self
+        requires { j < 200 }
+        ensures { (result.x ≡ j / 8 % 5) × ((result.y ≡ j / 8 / 5) × (result.z ≡ j % 8)) }
+    {
+        Cell {
+            x: j / 8 % 5,
+            y: j / 8 / 5,
+            z: j % 8,
+        }
+    }
 
-// The sum of a column.
-fn column_sum(s: &[bool], x: usize, z: usize) -> bool
-    requires { (length s.now ≡ 200) × ((x < 5) × (z < 8)) }
-    ensures { result ≡ column s.now x z }
-{
-    cell(s, x, 0, z) ^ cell(s, x, 1, z) ^ cell(s, x, 2, z) ^ cell(s, x, 3, z) ^ cell(s, x, 4, z)
+    // The bit of a state.
+    fn get(self, s: &State) -> bool
+        ensures { result ≡ a s.now self.x self.y self.z }
+    {
+        s[8 * (5 * self.y + self.x) + self.z]
+    }
+
+    // The sum of the column through it.
+    fn column(self, s: &State) -> bool
+        ensures { result ≡ column s.now self.x self.z }
+    {
+        let Cell { x, z, .. } = self;
+        Cell { x, y: 0, z }.get(s)
+            ^ Cell { x, y: 1, z }.get(s)
+            ^ Cell { x, y: 2, z }.get(s)
+            ^ Cell { x, y: 3, z }.get(s)
+            ^ Cell { x, y: 4, z }.get(s)
+    }
 }
 
 #[derive(Clone, Copy)]
 struct Theta;
 
-impl Layer for Theta {
+impl Layer<BITS> for Theta {
     ghost rule = { λ _ s. at (theta_at s) };
 
-    ghost suits = { λ b. b ≡ 200 };
+    ghost suits = { Unit {0} };
 
-    fn bit(&self, old: &[bool], j: usize) -> bool {
-        let (x, y, z) = coordinates(j);
-        cell(old, x, y, z)
-            ^ (column_sum(old, (x + 4) % 5, z) ^ column_sum(old, (x + 1) % 5, (z + 7) % 8))
+    fn bit(&self, old: &State, j: usize) -> bool {
+        let Cell { x, y, z } = Cell::of(j);
+        let before = Cell {
+            x: (x + 4) % 5,
+            y,
+            z,
+        };
+        let after = Cell {
+            x: (x + 1) % 5,
+            y,
+            z: (z + 7) % 8,
+        };
+        Cell { x, y, z }.get(old) ^ (before.column(old) ^ after.column(old))
     }
 }
 
-const OFFSETS: [u16; 25] = [
+const OFFSETS: [usize; 25] = [
     0, 1, 190, 28, 91, 36, 300, 6, 55, 276, 3, 10, 171, 153, 231, 105, 45, 15, 21, 136, 210, 66,
     253, 120, 78,
 ];
@@ -53,42 +82,63 @@ const OFFSETS: [u16; 25] = [
 #[derive(Clone, Copy)]
 struct Rho;
 
-impl Layer for Rho {
+impl Layer<BITS> for Rho {
     ghost rule = { λ _ s. at (rho_at s) };
 
-    ghost suits = { λ b. b ≡ 200 };
+    ghost suits = { Unit {0} };
 
-    fn bit(&self, old: &[bool], j: usize) -> bool {
-        let (x, y, z) = coordinates(j);
-        cell(old, x, y, (z + (8 - OFFSETS[5 * y + x] as usize % 8)) % 8)
+    fn bit(&self, old: &State, j: usize) -> bool {
+        let Cell { x, y, z } = Cell::of(j);
+        let offset = OFFSETS[5 * y + x] % 8;
+        Cell {
+            x,
+            y,
+            z: (z + (8 - offset)) % 8,
+        }
+        .get(old)
     }
 }
 
 #[derive(Clone, Copy)]
 struct Pi;
 
-impl Layer for Pi {
+impl Layer<BITS> for Pi {
     ghost rule = { λ _ s. at (pi_at s) };
 
-    ghost suits = { λ b. b ≡ 200 };
+    ghost suits = { Unit {0} };
 
-    fn bit(&self, old: &[bool], j: usize) -> bool {
-        let (x, y, z) = coordinates(j);
-        cell(old, (x + 3 * y) % 5, x, z)
+    fn bit(&self, old: &State, j: usize) -> bool {
+        let Cell { x, y, z } = Cell::of(j);
+        Cell {
+            x: (x + 3 * y) % 5,
+            y: x,
+            z,
+        }
+        .get(old)
     }
 }
 
 #[derive(Clone, Copy)]
 struct Chi;
 
-impl Layer for Chi {
+impl Layer<BITS> for Chi {
     ghost rule = { λ _ s. at (chi_at s) };
 
-    ghost suits = { λ b. b ≡ 200 };
+    ghost suits = { Unit {0} };
 
-    fn bit(&self, old: &[bool], j: usize) -> bool {
-        let (x, y, z) = coordinates(j);
-        cell(old, x, y, z) ^ (!cell(old, (x + 1) % 5, y, z) & cell(old, (x + 2) % 5, y, z))
+    fn bit(&self, old: &State, j: usize) -> bool {
+        let Cell { x, y, z } = Cell::of(j);
+        let next = Cell {
+            x: (x + 1) % 5,
+            y,
+            z,
+        };
+        let second = Cell {
+            x: (x + 2) % 5,
+            y,
+            z,
+        };
+        Cell { x, y, z }.get(old) ^ (!next.get(old) & second.get(old))
     }
 }
 
@@ -97,53 +147,42 @@ struct Iota {
     constant: u8,
 }
 
-impl Layer for Iota {
+impl Layer<BITS> for Iota {
     ghost rule = { λ l s. at (iota_at l.constant s) };
 
-    ghost suits = { λ b. b ≡ 200 };
+    ghost suits = { Unit {0} };
 
-    fn bit(&self, old: &[bool], j: usize) -> bool {
-        let (x, y, z) = coordinates(j);
-        cell(old, x, y, z) ^ ((5 * y + x == 0) & get(self.constant, z as u8))
+    fn bit(&self, old: &State, j: usize) -> bool {
+        let Cell { x, y, z } = Cell::of(j);
+        Cell { x, y, z }.get(old) ^ ((5 * y + x == 0) & get(self.constant, z))
     }
 }
 
-fn one_round(s: &mut [bool], t: &mut [bool], c: u8)
-    requires { (length s.old ≡ 200) × (length t.old ≡ 200) }
-    ensures { s.new ≡ round c s.old }
+#[tactic(auto, unfolding(crate::specs::Keccak::round, crate::specs::Keccak::theta, crate::specs::Keccak::rho, crate::specs::Keccak::pi, crate::specs::Keccak::chi, crate::specs::Keccak::iota))]
+fn one_round(s: &State, constant: u8) -> State
+    ensures { result ≡ round constant s.now }
 {
-    apply(&Theta, s, t);
-    apply(&Rho, t, s);
-    apply(&Pi, s, t);
-    apply(&Chi, t, s);
-    apply(&Iota { constant: c }, s, t);
-    s.copy_from_slice(t);
+    let s = apply(&Theta, s);
+    let s = apply(&Rho, &s);
+    let s = apply(&Pi, &s);
+    let s = apply(&Chi, &s);
+    apply(&Iota { constant }, &s)
 }
 
-const ROUNDS: usize = 18;
-
-const CONSTANTS: [u8; ROUNDS] = [
+const CONSTANTS: [u8; 18] = [
     0x01, 0x82, 0x8A, 0x00, 0x8B, 0x01, 0x81, 0x09, 0x8A, 0x88, 0x09, 0x0A, 0x8B, 0x8B, 0x89, 0x03,
     0x02, 0x80,
 ];
 
-fn all_rounds(s: &mut [bool], t: &mut [bool])
-    requires { (length s.old ≡ 200) × (length t.old ≡ 200) }
-    ensures { s.new ≡ after 18 s.old }
-{
-    for k in 0..ROUNDS {
-        one_round(s, t, CONSTANTS[k]);
-    }
-}
-
 // The permutation of a block of 25 bytes.
+#[tactic(auto, unfolding(crate::specs::Keccak::after, crate::specs::Keccak::keccak))]
 pub(crate) fn permute(block: &mut [u8])
     requires { length block.old ≡ 25 }
     ensures { block.new ≡ keccak 18 block.old }
 {
-    let mut s = [false; 200];
-    let mut t = [false; 200];
-    unpack(block, &mut s);
-    all_rounds(&mut s, &mut t);
+    let mut s = unpack(block);
+    for constant in CONSTANTS {
+        s = one_round(&s, constant);
+    }
     pack(&s, block);
 }

@@ -13,5 +13,6 @@ mod variants;
 pub use faults::EngineFault;
 pub use interface::Engine;
 pub use plain_engine::Plain;
+pub use spongent::next_counter;
 pub use theorems::permutation_laws_stand;
 pub use variants::Variant;

@@ -28,13 +28,14 @@ impl Engine for Plain {
     }
 }
 
+#[tactic(auto, unfolding(crate::specs::Permutation::permutation))]
 fn permute(variant: Variant, block: &mut [u8])
     requires { length block.old ≡ block_size variant }
     ensures { block.new ≡ permutation variant block.old }
 {
     match variant {
-        Variant::Dumbo => spongent::permute(block, 0x75, 80),
-        Variant::Jumbo => spongent::permute(block, 0x45, 90),
+        Variant::Dumbo => spongent::permute::<160>(block, 0x75, variant.rounds()),
+        Variant::Jumbo => spongent::permute::<176>(block, 0x45, variant.rounds()),
         Variant::Delirium => keccak::permute(block),
     }
 }

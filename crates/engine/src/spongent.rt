@@ -1,6 +1,6 @@
 // Spongent, bit by bit.
-ghost use Rattle.std.specs.Prelude.{◌≡◌, ℕ, ◌+◌, ◌*◌, ◌%◌, ◌<◌, ◌≤◌, Bool, List, length};
-ghost use Rattle.engine.specs.Spongent.{added, next, counted, substituted, moved, round, after, spongent};
+ghost use Rattle.std.specs.Prelude.{◌≡◌, ◌*◌, ◌%◌, ◌<◌, ◌≤◌, length};
+ghost use Rattle.engine.specs.Spongent.{added, next, counted, substituted, moved, round, spongent};
 
 use crate::bits::{Layer, apply, get, number, pack, unpack};
 
@@ -12,13 +12,13 @@ struct AddCounter {
     counter: u8,
 }
 
-impl Layer for AddCounter {
+impl<const BITS: usize> Layer<BITS> for AddCounter {
     ghost rule = { λ l. counted l.counter };
 
-    ghost suits = { λ _. Unit {0} };
+    ghost suits = { Unit {0} };
 
-    fn bit(&self, old: &[bool], j: usize) -> bool {
-        old[j] ^ counter_bit(old.len(), self.counter, j)
+    fn bit(&self, old: &[bool; BITS], j: usize) -> bool {
+        old[j] ^ counter_bit(BITS, self.counter, j)
     }
 }
 
@@ -27,12 +27,8 @@ fn counter_bit(b: usize, c: u8, j: usize) -> bool
     requires { j < b }
     ensures { result ≡ added b c j }
 {
-    let low = if j < 8 { get(c, j as u8) } else { false };
-    let high = if j < b.saturating_sub(8) {
-        false
-    } else {
-        get(c, (b - 1 - j) as u8)
-    };
+    let low = j < 8 && get(c, j);
+    let high = j >= b.saturating_sub(8) && get(c, b - 1 - j);
     low ^ high
 }
 
@@ -40,14 +36,15 @@ fn counter_bit(b: usize, c: u8, j: usize) -> bool
 #[derive(Clone, Copy)]
 struct Substitute;
 
-impl Layer for Substitute {
+impl<const BITS: usize> Layer<BITS> for Substitute {
     ghost rule = { λ _. substituted };
 
-    ghost suits = { λ b. b % 4 ≡ 0 };
+    ghost suits = { BITS % 4 ≡ 0 };
 
-    fn bit(&self, old: &[bool], j: usize) -> bool {
-        let v = number(old, j / 4 * 4, 4);
-        get(TABLE[v as usize], (j % 4) as u8)
+    fn bit(&self, old: &[bool; BITS], j: usize) -> bool {
+        let start = j / 4 * 4;
+        let half = number(&old.as_slice()[start..start + 4]);
+        get(TABLE[half as usize], j % 4)
     }
 }
 
@@ -55,63 +52,45 @@ impl Layer for Substitute {
 #[derive(Clone, Copy)]
 struct Move;
 
-impl Layer for Move {
+impl<const BITS: usize> Layer<BITS> for Move {
     ghost rule = { λ _. moved };
 
-    ghost suits = { λ b. b % 4 ≡ 0 };
+    ghost suits = { BITS % 4 ≡ 0 };
 
-    fn bit(&self, old: &[bool], j: usize) -> bool {
-        let quarter = old.len() / 4;
+    fn bit(&self, old: &[bool; BITS], j: usize) -> bool {
+        let quarter = BITS / 4;
         old[j % quarter * 4 + j / quarter]
     }
 }
 
-fn one_round(s: &mut [bool], t: &mut [bool], c: u8)
-    requires { (length t.old ≡ length s.old) × (length s.old % 4 ≡ 0) }
-    ensures { s.new ≡ round c s.old }
+fn one_round<const BITS: usize>(s: &[bool; BITS], counter: u8) -> [bool; BITS]
+    requires { BITS % 4 ≡ 0 }
+    ensures { result ≡ round counter s.now }
 {
-    apply(&AddCounter { counter: c }, s, t);
-    apply(&Substitute, t, s);
-    apply(&Move, s, t);
-    s.copy_from_slice(t);
+    let s = apply(&AddCounter { counter }, s);
+    let s = apply(&Substitute, &s);
+    apply(&Move, &s)
 }
 
 // The counter of the next round.
-fn step(c: u8) -> u8
-    requires { c < 128 }
-    ensures { (result ≡ next c) × (result < 128) }
+#[tactic(auto, unfolding(crate::specs::Spongent::next))]
+pub fn next_counter(c: u8) -> u8
+    ensures { result ≡ next c }
 {
-    c * 2 % 128 + (get(c, 6) ^ get(c, 5)) as u8
+    c % 64 * 2 + (get(c, 6) ^ get(c, 5)) as u8
 }
 
-fn all_rounds(s: &mut [bool], t: &mut [bool], first: u8, rounds: u8)
-    requires { (length t.old ≡ length s.old) × ((length s.old % 4 ≡ 0) × (first < 128)) }
-    ensures { s.new ≡ after first rounds s.old }
+// The permutation of a block of so many bits, where the counter starts at `first`.
+#[tactic(auto, unfolding(crate::specs::Spongent::after, crate::specs::Spongent::counter, crate::specs::Spongent::spongent))]
+pub(crate) fn permute<const BITS: usize>(block: &mut [u8], first: u8, rounds: u8)
+    requires { (BITS ≡ 8 * length block.old) × (BITS ≤ 200) }
+    ensures { block.new ≡ spongent first rounds block.old }
 {
+    let mut s = unpack::<BITS>(block);
     let mut c = first;
-    for i in 0..rounds {
-        one_round(s, t, c);
-        c = step(c);
+    for _ in 0..rounds {
+        s = one_round(&s, c);
+        c = next_counter(c);
     }
-}
-
-// The permutation of a block, with room for its bits twice.
-fn permute_in(block: &mut [u8], s: &mut [bool], t: &mut [bool], first: u8, rounds: u8)
-    requires { (length s.old ≡ 8 * length block.old) × ((length t.old ≡ 8 * length block.old) × (first < 128)) }
-    ensures { block.new ≡ spongent first rounds block.old }
-{
-    unpack(block, s);
-    all_rounds(s, t, first, rounds);
-    pack(s, block);
-}
-
-// The permutation of a block of at most 25 bytes.
-pub(crate) fn permute(block: &mut [u8], first: u8, rounds: u8)
-    requires { (length block.old ≤ 25) × (first < 128) }
-    ensures { block.new ≡ spongent first rounds block.old }
-{
-    let b = 8 * block.len();
-    let mut s = [false; 200];
-    let mut t = [false; 200];
-    permute_in(block, &mut s[0..b], &mut t[0..b], first, rounds);
+    pack(&s, block);
 }

@@ -1,6 +1,9 @@
 // The three variants of the cipher.
-ghost use Rattle.std.specs.Prelude.{◌≡◌};
+ghost use Rattle.std.specs.Prelude.{◌≡◌, Some};
+ghost use Rattle.engine.specs.Names.{name};
 ghost use Rattle.engine.specs.Permutation.{block_size, rounds};
+
+use std::fmt;
 
 // Dumbo and Jumbo permute blocks by Spongent, Delirium by Keccak.
 #[derive(Clone, Copy, PartialEq, Eq, Debug)]
@@ -31,5 +34,18 @@ impl Variant {
             Variant::Jumbo => 90,
             Variant::Delirium => 18,
         }
+    }
+}
+
+// Writes the name.
+impl fmt::Display for Variant {
+    ghost output = { λ v. Some (name v) };
+
+    fn fmt<W: fmt::Write>(&self, f: &mut fmt::Formatter<W>) -> fmt::Result {
+        f.write_str(match self {
+            Variant::Dumbo => "Dumbo",
+            Variant::Jumbo => "Jumbo",
+            Variant::Delirium => "Delirium",
+        })
     }
 }

@@ -1,10 +1,9 @@
 -- Bids: how the parts of an envelope are written, and what sealing leaves.
-use Rattle.std.proofs.Common.{◌≡◌, ℕ, ◌+◌, ◌-◌, ◌≤◌, min, List, ◌++◌, length, take, replicate, Ok, Result, sym, refl, ap, ◌∙◌, ap₂, arith, lit≤, eq-eqb}
-use borrow.Rule.Slice.PartMut.{put_mid, post_of}
+use Rattle.std.proofs.Common.{◌≡◌, ℕ, ◌+◌, ◌-◌, ◌≤◌, List, ◌++◌, length, take, drop, replicate, Ok, Result, sym, refl, ap, ◌∙◌, ap₂, arith, lit≤, eq-eqb}
+use borrow.Rule.Slice.PartMut.{put_mid}
 use Rattle.std.proofs.lemmas.Bool.{le-leb}
-use Rattle.std.proofs.lemmas.List.{length-append, length-take-le, append_assoc}
+use Rattle.std.proofs.lemmas.List.{length-drop, length-append, length-take-le, append_assoc}
 use Rattle.fault.specs.Checks.{left}
-use Rattle.big_endian.proofs.Laws.{take_cut}
 use Rattle.engine.specs.declared.variants.Variant.{Variant}
 use Rattle.engine.specs.declared.variants.Variant.TheVariants.{Dumbo, Jumbo, Delirium}
 use Rattle.cipher.specs.Mode.{tag_size, tag, sealed_text}
@@ -17,7 +16,7 @@ use Rattle.envelope.specs.Envelopes.{enveloped, bid}
 use Rattle.envelope.specs.declared.terms.Terms.{Terms}
 use Rattle.envelope.specs.declared.faults.EnvelopeFault.{EnvelopeFault}
 use Rattle.envelope.proofs.Writing.{write_more, write_all}
-use Rattle.envelope.proofs.TermsLaws.{held_length, terms_length}
+use Rattle.envelope.proofs.TermsLaws.{terms_length}
 
 tag_fits : (v : Variant) → tag_size v ≤ 16
 tag_fits Dumbo = lit≤ tt
@@ -26,19 +25,21 @@ tag_fits Delirium = lit≤ tt
 
 -- What stands in the place after head, sealed letter and tag are written.
 pub parts_written : (h s t xs yh ys yt : List ℕ) → length h ≡ 12 → length s ≡ 64 → length xs ≡ 76 + length t → yh ≡ h → ys ≡ s → yt ≡ t
-    → put_mid 76 (length xs - 76) (put_mid 12 64 (yh ++ post_of 0 12 xs) ys) yt ≡ h ++ (s ++ t)
+    → (let place = put_mid 12 64 (yh ++ drop 12 xs) ys in put_mid 76 (length place - 76) place yt ≡ h ++ (s ++ t))
 parts_written h s t xs yh ys yt lh ls lx eh es et =
     let ly : length yh ≡ 12 = ap length eh ∙ lh in
-    let two = write_more 12 64 yh ys xs (yh ++ post_of 0 12 xs) ly refl in
+    let place : List ℕ = put_mid 12 64 (yh ++ drop 12 xs) ys in
+    let two : place ≡ (yh ++ ys) ++ drop 76 xs = write_more 12 64 yh ys xs (yh ++ drop 12 xs) ly refl in
     let l2 : length (yh ++ ys) ≡ 76 = length-append yh ys ∙ omega (arith, ap length es) in
-    let three = write_more 76 (length xs - 76) (yh ++ ys) yt xs _ l2 two in
-    write_all (76 + (length xs - 76)) ((yh ++ ys) ++ yt) xs _ (omega arith) three ∙ append_assoc yh ys yt ∙ ap₂ ◌++◌ eh (ap₂ ◌++◌ es et)
+    let whole : length place ≡ length xs = ap length two ∙ length-append (yh ++ ys) (drop 76 xs) ∙ omega (arith, length-drop 76 xs) in
+    let three = write_more 76 (length place - 76) (yh ++ ys) yt xs place l2 two in
+    write_all (76 + (length place - 76)) ((yh ++ ys) ++ yt) xs _ (omega arith) three ∙ append_assoc yh ys yt ∙ ap₂ ◌++◌ eh (ap₂ ◌++◌ es et)
 
 -- A place for a tag, cut from sixteen bytes.
-pub tag_place_length : (v : Variant) (t : ℕ) → t ≡ tag_size v → length (take (t - 0) (replicate {A = ℕ} 16 0)) ≡ tag_size v
+pub tag_place_length : (v : Variant) (t : ℕ) → t ≡ tag_size v → length (take t (replicate {A = ℕ} 16 0)) ≡ tag_size v
 tag_place_length v t e =
     let fits : tag_size v ≤ 16 = tag_fits v in
-    length-take-le (t - 0) (replicate {A = ℕ} 16 0) (omega arith) ∙ omega arith
+    length-take-le t (replicate {A = ℕ} 16 0) (omega arith) ∙ omega arith
 
 -- Sealing under lawful sizes is granted, and leaves what is new.
 sealing_granted : (v : Variant) (key nonce ad text out place : List ℕ) → length key ≡ 16 → length nonce ≡ 12 → length ad ≤ 64 → length text ≡ 64 → length out ≡ 64 → length place ≡ tag_size v
@@ -65,16 +66,16 @@ unfolding enveloped
 enveloped_parts v key terms h l sealed tg place e es et = e ∙ ap₂ (λ a b. h ++ (a ++ b)) es et
 
 -- The first bytes of what terms hold are the terms.
-pub terms_cut : (t : Terms) (n : ℕ) (filled : List ℕ) → n ≡ length (bytes_of_terms t) → filled ≡ held_bytes t → take (n - 0) filled ≡ bytes_of_terms t
+pub terms_cut : (t : Terms) (n : ℕ) (filled : List ℕ) → n ≡ length (bytes_of_terms t) → filled ≡ held_bytes t → take n filled ≡ bytes_of_terms t
 unfolding bytes_of_terms
 terms_cut t n filled en ef =
-    let k : n - 0 ≡ min (length (held_bytes t)) t.len = omega (arith, terms_length t, held_length t) in
-    ap (take (n - 0)) ef ∙ take_cut (n - 0) t.len (held_bytes t) k
+    let k : n ≡ t.len = omega (arith, terms_length t) in
+    ap₂ take k ef
 
 -- What a granted sealing of a bid leaves in the place.
 pub bid_written : (v : Variant) (key : List ℕ) (t : Terms) (l b s amount n : ℕ) (note h lt filled place old : List ℕ) (r : Result (Unit {0}) EnvelopeFault)
     → r ≡ Ok tt → h ≡ head l b s → lt ≡ letter amount note → filled ≡ held_bytes t → n ≡ length (bytes_of_terms t)
-    → place ≡ enveloped v key (take (n - 0) filled) h lt → place ≡ left r (bid v key (bytes_of_terms t) l b s amount note) old
+    → place ≡ enveloped v key (take n filled) h lt → place ≡ left r (bid v key (bytes_of_terms t) l b s amount note) old
 unfolding bid
 bid_written v key t l b s amount n note h lt filled place old r er eh el ef en e =
     e ∙ ap (λ z. enveloped v key z h lt) (terms_cut t n filled en ef) ∙ ap₂ (enveloped v key (bytes_of_terms t)) eh el

@@ -1,17 +1,15 @@
 -- Heads: how one is written, and what is read of it.
-use Rattle.std.proofs.Common.{◌≡◌, ℕ, zero, suc, ◌+◌, ◌-◌, ◌*◌, ◌/◌, ◌%◌, ◌^◌, ◌<◌, ◌≤◌, List, [], ◌∷◌, ◌++◌, length, get_or, take, drop, Some, None, Option, sym, refl, ap, ◌∙◌, ap₂, arith}
+use Rattle.std.proofs.Common.{◌≡◌, ℕ, zero, suc, ◌+◌, ◌*◌, ◌/◌, ◌%◌, ◌^◌, ◌<◌, List, [], ◌∷◌, ◌++◌, length, get_or, take, drop, sym, ap, ◌∙◌, ap₂, w32, arith}
 use native.Mathlib.Numerals.{unary_clauses}
-use borrow.Rule.Slice.PartMut.{put_mid, post_of}
+use Rattle.std.specs.Int.{to_be_bytes}
 use Rattle.std.specs.Int.Digits.{number_from_digits, AllBelowBase}
 use Rattle.std.proofs.lemmas.Int.Digits.{number_push}
 use Rattle.std.proofs.ByRecursion.{All-append}
-use Rattle.std.proofs.lemmas.Bool.{le-leb, cond-true}
-use Rattle.std.proofs.lemmas.List.{drop_more, take_at, drop_at, take_rest, length-append, append_assoc}
+use Rattle.std.proofs.lemmas.List.{take_at, drop_at, length-append, append_assoc}
 use Rattle.big_endian.specs.Numbers.{bytes_of}
 use Rattle.big_endian.proofs.Laws.{bytes_of_length}
+use Rattle.envelope.proofs.Bytes.{bytes_given}
 use Rattle.envelope.specs.Heads.{head, lot_of, bidder_of, sequence_of}
-use Rattle.envelope.specs.Parts.{EnvelopeParts, parts_answer}
-use Rattle.envelope.proofs.Writing.{write_more, write_all}
 
 -- The number that the last k bytes of a number write is that number, if it has no more bytes.
 pub number_back : (k n : ℕ) → n < 256 ^ k → number_from_digits 256 (bytes_of k n) ≡ n
@@ -31,40 +29,13 @@ bytes_of_under (suc k) n = All-append (λ d. d < 256) (bytes_of k (n / 256)) (n 
 pub same_number : (k m n : ℕ) → m < 256 ^ k → n < 256 ^ k → bytes_of k m ≡ bytes_of k n → m ≡ n
 same_number k m n hm hn e = sym (number_back k m hm) ∙ ap (number_from_digits 256) e ∙ number_back k n hn
 
--- Four bytes from place k on, one by one.
-four_bytes : (xs : List ℕ) (k : ℕ) → k + 4 ≤ length xs → take 4 (drop k xs) ≡ get_or xs k 0 ∷ (get_or xs (k + 1) 0 ∷ (get_or xs (k + 1 + 1) 0 ∷ (get_or xs (k + 1 + 1 + 1) 0 ∷ [])))
-four_bytes xs k h =
-    ap (take 4)
-    (drop_more xs k 0 (omega arith)
-    ∙ ap (λ r. get_or xs k 0 ∷ r) (drop_more xs (k + 1) 0 (omega arith))
-    ∙ ap (λ r. get_or xs k 0 ∷ (get_or xs (k + 1) 0 ∷ r)) (drop_more xs (k + 1 + 1) 0 (omega arith))
-    ∙ ap (λ r. get_or xs k 0 ∷ (get_or xs (k + 1) 0 ∷ (get_or xs (k + 1 + 1) 0 ∷ r))) (drop_more xs (k + 1 + 1 + 1) 0 (omega arith)))
-
--- The parts of an envelope, from its first twelve bytes.
-pub parts_read : (e : List ℕ) (l b s : ℕ) → 12 ≤ length e
-    → l ≡ number_from_digits 256 (get_or e 0 0 ∷ get_or e 1 0 ∷ get_or e 2 0 ∷ get_or e 3 0 ∷ [])
-    → b ≡ number_from_digits 256 (get_or e 4 0 ∷ get_or e 5 0 ∷ get_or e 6 0 ∷ get_or e 7 0 ∷ [])
-    → s ≡ number_from_digits 256 (get_or e 8 0 ∷ get_or e 9 0 ∷ get_or e 10 0 ∷ get_or e 11 0 ∷ [])
-    → ◌≡◌ {A = Option EnvelopeParts} (Some (record { lot = l; bidder = b; sequence = s; rest = take (length e - 12) (drop 12 e) })) (parts_answer e)
-parts_read e l b s h el eb es =
-    let pl : l ≡ lot_of e = el ∙ ap (number_from_digits 256) (sym (four_bytes e 0 (omega arith))) in
-    let pb : b ≡ bidder_of e = eb ∙ ap (number_from_digits 256) (sym (four_bytes e 4 (omega arith))) in
-    let ps : s ≡ sequence_of e = es ∙ ap (number_from_digits 256) (sym (four_bytes e 8 (omega arith))) in
-    let pr : take (length e - 12) (drop 12 e) ≡ drop 12 e = take_rest e 12 in
-    (λ i. Some (record { lot = pl i; bidder = pb i; sequence = ps i; rest = pr i }))
-    ∙ sym (cond-true _ _ None (le-leb 12 (length e) h))
-
--- What stands in twelve places after the three numbers are written.
-pub head_written : (l b s : ℕ) (xs yl yb ys : List ℕ) → length xs ≡ 12 → yl ≡ bytes_of 4 l → yb ≡ bytes_of 4 b → ys ≡ bytes_of 4 s
-    → put_mid 8 4 (put_mid 4 4 (yl ++ post_of 0 4 xs) yb) ys ≡ head l b s
+-- The twelve bytes of three numbers are their head.
+pub head_written : (l b s : ℕ) (xs ys zs : List ℕ) → xs ≡ to_be_bytes w32 l → ys ≡ to_be_bytes w32 b → zs ≡ to_be_bytes w32 s
+    → get_or xs 0 0 ∷ get_or xs 1 0 ∷ get_or xs 2 0 ∷ get_or xs 3 0 ∷ get_or ys 0 0 ∷ get_or ys 1 0 ∷ get_or ys 2 0 ∷ get_or ys 3 0 ∷ get_or zs 0 0 ∷ get_or zs 1 0 ∷ get_or zs 2 0 ∷ get_or zs 3 0 ∷ [] ≡ head l b s
 unfolding head
-head_written l b s xs yl yb ys h el eb es =
-    let ll : length yl ≡ 4 = ap length el ∙ bytes_of_length 4 l in
-    let lb : length yb ≡ 4 = ap length eb ∙ bytes_of_length 4 b in
-    let two = write_more 4 4 yl yb xs (yl ++ post_of 0 4 xs) ll refl in
-    let l2 : length (yl ++ yb) ≡ 8 = length-append yl yb ∙ omega arith in
-    let three = write_more 8 4 (yl ++ yb) ys xs _ l2 two in
-    write_all 12 ((yl ++ yb) ++ ys) xs _ (omega arith) three ∙ append_assoc yl yb ys ∙ ap₂ ◌++◌ el (ap₂ ◌++◌ eb es)
+head_written l b s xs ys zs el eb es =
+    (λ i. get_or (el i) 0 0 ∷ get_or (el i) 1 0 ∷ get_or (el i) 2 0 ∷ get_or (el i) 3 0 ∷ get_or (eb i) 0 0 ∷ get_or (eb i) 1 0 ∷ get_or (eb i) 2 0 ∷ get_or (eb i) 3 0 ∷ get_or (es i) 0 0 ∷ get_or (es i) 1 0 ∷ get_or (es i) 2 0 ∷ get_or (es i) 3 0 ∷ [])
+    ∙ ap₂ ◌++◌ (bytes_given 4 l) (ap₂ ◌++◌ (bytes_given 4 b) (bytes_given 4 s))
 
 pub head_length : (l b s : ℕ) → length (head l b s) ≡ 12
 unfolding head

@@ -1,22 +1,20 @@
 -- Letters: how one is written, and how it is read.
-use Rattle.std.proofs.Common.{◌≡◌, ℕ, ◌+◌, ◌-◌, ◌<◌, ◌≤◌, true, false, ◌&&◌, leb, List, [], ◌∷◌, ◌++◌, length, get_or, take, drop, set, replicate, sym, ap, ◌∙◌, arith}
+use Rattle.std.proofs.Common.{◌≡◌, ℕ, ◌+◌, ◌-◌, ◌<◌, ◌≤◌, true, false, ◌&&◌, leb, List, [], ◌∷◌, ◌++◌, length, get_or, take, drop, set, replicate, w64, ◌==◌, refl, sym, ap, ◌∙◌, arith}
 use borrow.Rule.Slice.PartMut.{put_mid, post_of}
+use Rattle.std.specs.Int.{to_be_bytes, from_be_bytes}
+use Rattle.std.specs.List.{list_all}
 use Rattle.std.specs.Int.Digits.{number_from_digits}
 use Rattle.std.proofs.lemmas.Bool.{eq-eqb, ne_eqb, le-leb, lt-leb, eqb-true, leb-true, and_parts, and_left, and_right, cond-true, cond-false}
-use Rattle.std.proofs.lemmas.List.{at_drop_more, at_drop_all, set_at, take_at, drop_at, append_assoc, length-append, drop-replicate, length-take-le, take_all}
+use Rattle.std.proofs.lemmas.List.{get_or-drop, take_rest, drop-drop, set_at, take_at, drop_at, append_assoc, length-append, drop-replicate, length-take-le}
 use Rattle.big_endian.specs.Numbers.{bytes_of}
 use Rattle.big_endian.proofs.Laws.{bytes_of_length}
+use Rattle.envelope.proofs.Bytes.{bytes_given, eight_read}
 use Rattle.envelope.specs.Letters.{letter, most_cents, amount_field, note_length, after_note, only_zeros, lawful, amount_offered}
 
--- Looking at bytes one after another: byte i is not zero, is zero, or is past the end.
-pub zero_stop : (xs : List ℕ) (i : ℕ) → i < length xs → (get_or xs i 0 ≡ 0 → ⊥) → only_zeros (drop i xs) ≡ only_zeros xs → false ≡ only_zeros xs
-zero_stop xs i lt ne h = ap (λ b. b && only_zeros (drop (i + 1) xs)) (sym (ne_eqb (get_or xs i 0) 0 ne)) ∙ sym (at_drop_more only_zeros xs i 0 lt) ∙ h
-
-pub zero_more : (xs : List ℕ) (i : ℕ) → i < length xs → get_or xs i 0 ≡ 0 → only_zeros (drop i xs) ≡ only_zeros xs → only_zeros (drop (i + 1) xs) ≡ only_zeros xs
-zero_more xs i lt e h = ap (λ b. b && only_zeros (drop (i + 1) xs)) (sym (eq-eqb (get_or xs i 0) 0 e)) ∙ sym (at_drop_more only_zeros xs i 0 lt) ∙ h
-
-pub zero_end : (xs : List ℕ) (i : ℕ) → length xs ≤ i → only_zeros (drop i xs) ≡ only_zeros xs → true ≡ only_zeros xs
-zero_end xs i le h = sym (at_drop_all only_zeros xs i le) ∙ h
+-- All bytes are zero, by the library's word.
+pub all_zeros : (xs : List ℕ) → list_all (λ x. x == 0) xs ≡ only_zeros xs
+all_zeros [] = refl
+all_zeros (x ∷ xs) = ap (λ b. x == 0 && b) (all_zeros xs)
 
 -- What stands in the place after amount, note length and note are written over zeros.
 written_parts : (a note : List ℕ) (n : ℕ) → length a ≡ 8 → put_mid 9 (9 + n - 9) (set (a ++ replicate 56 0) 8 n) note ≡ a ++ (n ∷ (note ++ replicate (55 - n) 0))
@@ -32,18 +30,19 @@ written_parts a note n la =
     ∙ ap (λ xs. front ++ (note ++ xs)) (drop-replicate n 55 0)
     ∙ append_assoc a (n ∷ []) (note ++ replicate (55 - n) 0)
 
-pub written : (amount : ℕ) (note a z n : List ℕ) → a ≡ bytes_of 8 amount → z ≡ replicate 64 0 → n ≡ note → put_mid 9 (9 + length note - 9) (set (a ++ post_of 0 8 z) 8 (length note)) n ≡ letter amount note
+pub written : (amount : ℕ) (note a n : List ℕ) → a ≡ to_be_bytes w64 amount → n ≡ note → put_mid 9 (9 + length note - 9) (set (a ++ replicate 56 0) 8 (length note)) n ≡ letter amount note
 unfolding letter
-written amount note a z n ea ez en =
-    let la : length a ≡ 8 = ap length ea ∙ bytes_of_length 8 amount in
-    ap (λ xs. put_mid 9 (9 + length note - 9) (set (a ++ post_of 0 8 xs) 8 (length note)) n) ez
-    ∙ ap (put_mid 9 (9 + length note - 9) (set (a ++ replicate 56 0) 8 (length note))) en
+written amount note a n ea en =
+    let eb : a ≡ bytes_of 8 amount = ea ∙ bytes_given 8 amount in
+    let la : length a ≡ 8 = ap length eb ∙ bytes_of_length 8 amount in
+    ap (put_mid 9 (9 + length note - 9) (set (a ++ replicate 56 0) 8 (length note))) en
     ∙ written_parts a note (length note) la
-    ∙ ap (λ xs. xs ++ (length note ∷ (note ++ replicate (55 - length note) 0))) ea
+    ∙ ap (λ xs. xs ++ (length note ∷ (note ++ replicate (55 - length note) 0))) eb
 
 -- The number that is read from the first eight bytes is the amount.
-pub amount_read : (xs : List ℕ) → 8 ≤ length xs → number_from_digits 256 (take 16 (take 8 xs)) ≡ amount_field xs
-amount_read xs h = ap (number_from_digits 256) (take_all 16 (take 8 xs) (omega (arith, length-take-le 8 xs h)))
+pub amount_read : (xs ys : List ℕ) (n : ℕ) → 8 ≤ length xs → ys ≡ take 8 xs → n ≡ from_be_bytes w64 ys → n ≡ amount_field xs
+amount_read xs ys n h e r =
+    r ∙ eight_read ys (ap length e ∙ length-take-le 8 xs h) ∙ ap (number_from_digits 256) e
 
 -- What each check says of a letter.
 pub unlawful_length : (xs : List ℕ) → (length xs ≡ 64 → ⊥) → false ≡ lawful xs
@@ -64,6 +63,26 @@ lawful_rest xs l a n =
     ap (λ b. b && (leb (amount_field xs) most_cents && (leb (note_length xs) 55 && only_zeros (after_note xs)))) (eq-eqb (length xs) 64 l)
     ∙ ap (λ b. b && (leb (note_length xs) 55 && only_zeros (after_note xs))) (le-leb (amount_field xs) most_cents a)
     ∙ ap (λ b. b && only_zeros (after_note xs)) (le-leb (note_length xs) 55 n)
+
+-- The same, where the letter is split into eight bytes and the rest, which has the note's length in front.
+module _ (xs rest : List ℕ) (split : rest ≡ drop 8 xs) where
+  abbrev text : List ℕ
+  text = take (length rest - 1) (drop 1 rest)
+
+  length_is : get_or rest 0 0 ≡ note_length xs
+  length_is = ap (λ ys. get_or ys 0 0) split ∙ get_or-drop 8 xs 0 0
+
+  pub long_note : 55 < get_or rest 0 0 → false ≡ lawful xs
+  long_note h = unlawful_note xs (let e = length_is in omega arith)
+
+  zeros_are : take (length text - get_or rest 0 0) (drop (get_or rest 0 0) text) ≡ after_note xs
+  zeros_are =
+      take_rest text (get_or rest 0 0) ∙ ap (drop (get_or rest 0 0)) (take_rest rest 1 ∙ ap (drop 1) split ∙ drop-drop 1 8 xs)
+      ∙ drop-drop (get_or rest 0 0) 9 xs ∙ ap (λ k. drop (9 + k) xs) length_is
+
+  pub lawful_zeros : length xs ≡ 64 → amount_field xs ≤ most_cents → get_or rest 0 0 ≤ 55
+      → only_zeros (take (length text - get_or rest 0 0) (drop (get_or rest 0 0) text)) ≡ lawful xs
+  lawful_zeros l a n = ap only_zeros zeros_are ∙ sym (lawful_rest xs l a (let e = length_is in omega arith))
 
 -- A lawful letter has 64 bytes and a lawful amount, which it offers; an unlawful one offers nothing.
 pub lawful_length : (xs : List ℕ) → lawful xs ≡ true → length xs ≡ 64

@@ -1,3 +1,4 @@
+pub mod Bytes
 pub mod LetterLaws
 pub mod Writing
 pub mod TermsLaws

@@ -24,39 +24,39 @@ granted_head p b h e = go (ltb p.given last_sequence) refl e
 
 -- Sequences after n, none above the last.
 abbrev Later : ℕ → Head → Type 0
-Later n h = (n < h.sequence) × (h.sequence ≤ last_sequence)
+Later n h = (n < h.fields.sequence) × (h.fields.sequence ≤ last_sequence)
 
 later : {p q : Pen} {answers : List (Result Head EnvelopeFault)} → Takings p answers q → AllByRecursion (Later p.given) (heads_given answers)
 later none = tt
 later (more {p = p} {q = q} {bidder = b} {a = Ok h} {rest = answers} t rest) =
     let g = granted_head p b h t.answers in
-    let s : h.sequence ≡ p.given + 1 = ap (λ x. x.sequence) g.1 in
+    let s : h.fields.sequence ≡ p.given + 1 = ap (λ x. x.fields.sequence) g.1 in
     let n : q.given ≡ p.given + 1 = ap (λ x. x.given) t.pen_after in
     ((omega arith, omega arith), All-weaker (Later q.given) (Later p.given) (λ x l. (omega arith, l.1)) (heads_given answers) (later rest))
 later (more {p = p} {q = q} {a = Err f} {rest = answers} t rest) =
     subst (λ x. AllByRecursion (Later x.given) (heads_given answers)) t.pen_after (later rest)
 
 -- Heads of different sequences have different bytes.
-apart : (h other : Head) → h.sequence < other.sequence → other.sequence ≤ last_sequence → nonce h ≡ nonce other → ⊥
+apart : (h other : Head) → h.fields.sequence < other.fields.sequence → other.fields.sequence ≤ last_sequence → nonce h ≡ nonce other → ⊥
 apart h other lt le e =
-    let a : sequence_of (nonce h ++ []) ≡ h.sequence = sequence_back h.lot h.bidder h.sequence [] (omega arith) in
-    let b : sequence_of (nonce other ++ []) ≡ other.sequence = sequence_back other.lot other.bidder other.sequence [] (omega arith) in
+    let a : sequence_of (nonce h ++ []) ≡ h.fields.sequence = sequence_back h.fields.lot h.fields.bidder h.fields.sequence [] (omega arith) in
+    let b : sequence_of (nonce other ++ []) ≡ other.fields.sequence = sequence_back other.fields.lot other.fields.bidder other.fields.sequence [] (omega arith) in
     omega (arith, sym a ∙ ap (λ x. sequence_of (x ++ [])) e ∙ b)
 
 differ : {p q : Pen} {answers : List (Result Head EnvelopeFault)} → Takings p answers q → NoTwoEqual (heads_given answers)
 differ none = tt
 differ (more {p = p} {q = q} {bidder = b} {a = Ok h} {rest = answers} t rest) =
     let g = granted_head p b h t.answers in
-    let s : h.sequence ≡ p.given + 1 = ap (λ x. x.sequence) g.1 in
+    let s : h.fields.sequence ≡ p.given + 1 = ap (λ x. x.fields.sequence) g.1 in
     let n : q.given ≡ p.given + 1 = ap (λ x. x.given) t.pen_after in
     (All-weaker (Later q.given) (λ x. nonce h ≡ nonce x → ⊥) (λ x l. apart h x (omega arith) l.1) (heads_given answers) (later rest), differ rest)
 differ (more {a = Err f} t rest) = differ rest
 
 -- The head at place k has the sequence k + 1 after the last one given before.
-counts : {p q : Pen} {answers : List (Result Head EnvelopeFault)} → Takings p answers q → (k : ℕ) → k < length (heads_given answers) → get_or (map (λ h. h.sequence) (heads_given answers)) k 0 ≡ p.given + k + 1
+counts : {p q : Pen} {answers : List (Result Head EnvelopeFault)} → Takings p answers q → (k : ℕ) → k < length (heads_given answers) → get_or (map (λ h. h.fields.sequence) (heads_given answers)) k 0 ≡ p.given + k + 1
 counts none k l = absurd (omega arith)
 counts (more {p = p} {q = q} {bidder = b} {a = Ok h} {rest = answers} t rest) zero l =
-    ap (λ x. x.sequence) (granted_head p b h t.answers).1 ∙ omega arith
+    ap (λ x. x.fields.sequence) (granted_head p b h t.answers).1 ∙ omega arith
 counts (more {p = p} {q = q} {bidder = b} {a = Ok h} {rest = answers} t rest) (suc k) l =
     let n : q.given ≡ p.given + 1 = ap (λ x. x.given) t.pen_after in
     counts rest k (omega arith) ∙ omega arith
@@ -66,13 +66,13 @@ counts (more {p = p} {q = q} {a = Err f} {rest = answers} t rest) k l =
 
 -- All heads have what the pen has.
 abbrev Of : Pen → Head → Type 0
-Of p h = (h.lot ≡ p.lot) × (bytes_of_terms h.terms ≡ bytes_of_terms p.terms)
+Of p h = (h.fields.lot ≡ p.lot) × (bytes_of_terms h.terms ≡ bytes_of_terms p.terms)
 
 belong : {p q : Pen} {answers : List (Result Head EnvelopeFault)} → Takings p answers q → AllByRecursion (Of p) (heads_given answers)
 belong none = tt
 belong (more {p = p} {q = q} {bidder = b} {a = Ok h} {rest = answers} t rest) =
     let e = (granted_head p b h t.answers).1 in (
-      (ap (λ x. x.lot) e, ap (λ x. bytes_of_terms x.terms) e),
+      (ap (λ x. x.fields.lot) e, ap (λ x. bytes_of_terms x.terms) e),
       All-weaker (Of q) (Of p) (λ x l. (l.0 ∙ ap (λ y. y.lot) t.pen_after, l.1 ∙ ap (λ y. bytes_of_terms y.terms) t.pen_after)) (heads_given answers) (belong rest),
     )
 belong (more {p = p} {q = q} {a = Err f} {rest = answers} t rest) = subst (λ x. AllByRecursion (Of x) (heads_given answers)) t.pen_after (belong rest)
@@ -84,5 +84,5 @@ pen_laws =
       sequences_count_from_one = λ lot terms p q answers fresh run k l.
           (let z : p.given ≡ 0 = ap (λ x. x.given) fresh in counts run k l ∙ omega arith);
       heads_have_the_lot_and_terms_of_their_pen = λ lot terms p q answers fresh run.
-          All-weaker (Of p) (λ h. (h.lot ≡ lot) × (bytes_of_terms h.terms ≡ terms)) (λ h l. (l.0 ∙ ap (λ x. x.lot) fresh, l.1 ∙ ap (λ x. x.terms) fresh)) (heads_given answers) (belong run);
+          All-weaker (Of p) (λ h. (h.fields.lot ≡ lot) × (bytes_of_terms h.terms ≡ terms)) (λ h l. (l.0 ∙ ap (λ x. x.lot) fresh, l.1 ∙ ap (λ x. x.terms) fresh)) (heads_given answers) (belong run);
     }

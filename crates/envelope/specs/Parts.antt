@@ -17,5 +17,5 @@ parts_answer e =
 
 -- The program's parts as plain values.
 abbrev pub parts_seen : Option Parts → Option EnvelopeParts
-parts_seen (Some p) = Some (record { lot = p.lot; bidder = p.bidder; sequence = p.sequence; rest = p.rest.now })
+parts_seen (Some p) = Some (record { lot = p.head.lot; bidder = p.head.bidder; sequence = p.head.sequence; rest = p.rest.now })
 parts_seen None = None

@@ -30,7 +30,7 @@ pen_seen (Err f) = Err f
 
 -- The next head of a pen, and the pen once that is taken.
 abbrev pub next_head : Pen → ℕ → Head
-next_head p bidder = record { lot = p.lot; bidder = bidder; sequence = p.given + 1; terms = p.terms }
+next_head p bidder = record { fields = record { lot = p.lot; bidder = bidder; sequence = p.given + 1 }; terms = p.terms }
 
 abbrev pub next_pen : Pen → Pen
 next_pen p = record { lot = p.lot; terms = p.terms; given = p.given + 1 }

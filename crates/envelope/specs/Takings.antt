@@ -24,7 +24,7 @@ heads_given (Err f ∷ rest) = heads_given rest
 
 -- The bytes of a head.
 abbrev pub nonce : Head → List ℕ
-nonce h = head h.lot h.bidder h.sequence
+nonce h = head h.fields.lot h.fields.bidder h.fields.sequence
 
 -- No two of the heads have equal bytes.
 abbrev pub NoTwoEqual : List Head → Type 0

@@ -45,11 +45,11 @@ pub record LawsOfPens : Type 0 where
   -- The sequences are 1, 2, 3 and on.
   pub sequences_count_from_one :
       (lot : ℕ) (terms : List ℕ) (p q : Pen) (answers : List (Result Head EnvelopeFault)) → Fresh lot terms p → Takings p answers q
-      → (k : ℕ) → k < length (heads_given answers) → slice_index (map (λ h. h.sequence) (heads_given answers)) k ≡ k + 1
+      → (k : ℕ) → k < length (heads_given answers) → slice_index (map (λ h. h.fields.sequence) (heads_given answers)) k ≡ k + 1
   -- Every head has the pen's lot and terms.
   pub heads_have_the_lot_and_terms_of_their_pen :
       (lot : ℕ) (terms : List ℕ) (p q : Pen) (answers : List (Result Head EnvelopeFault)) → Fresh lot terms p → Takings p answers q
-      → AllByRecursion (λ h. (h.lot ≡ lot) × (bytes_of_terms h.terms ≡ terms)) (heads_given answers)
+      → AllByRecursion (λ h. (h.fields.lot ≡ lot) × (bytes_of_terms h.terms ≡ terms)) (heads_given answers)
 
 -- The laws of sealed bids.
 pub record LawsOfBids : Type 0 where

@@ -6,14 +6,12 @@ ghost use Rattle.envelope.specs.Envelopes.{envelope_size, enveloped, bid};
 ghost use Rattle.envelope.specs.Calls.{bid_answer};
 
 use crate::faults::EnvelopeFault;
-use crate::heads::{HEAD_BYTES, Head, put_head};
-use crate::letters::{LETTER_BYTES, MOST_CENTS, MOST_NOTE_BYTES, write_letter};
+use crate::heads::{HEAD_BYTES, Head, head_of};
+use crate::letters::{LETTER_BYTES, MOST_CENTS, MOST_NOTE_BYTES, letter_of};
 use crate::terms::MOST_TERMS_BYTES;
-use cipher::{check_key, seal, tag_bytes};
+use cipher::{MOST_TAG_BYTES, check_key, seal, tag_bytes};
 use engine::{Engine, Variant};
 
-// The longest tag of all variants.
-const MOST_TAG_BYTES: usize = 16;
 // Where the tag stands in an envelope.
 const TAG_AT: usize = HEAD_BYTES + LETTER_BYTES;
 
@@ -26,6 +24,7 @@ pub fn envelope_bytes(variant: Variant) -> usize
 
 // Seals a bid: writes the envelope of a head, an amount and a note under the head's terms. The head is used up, granted or refused. After a
 // refusal the place is as it was.
+#[tactic(auto, using(crate::proofs::TermsLaws::terms_short))]
 pub fn seal_bid<E: Engine>(
     engine: &E,
     key: &[u8],
@@ -35,26 +34,18 @@ pub fn seal_bid<E: Engine>(
     place: &mut [u8],
 ) -> Result<(), EnvelopeFault>
     ensures answer { result ≡ bid_answer (E.kind engine.now) key.now amount note.now place.old }
-    ensures place { place.new ≡ left result (bid (E.kind engine.now) key.now (bytes_of_terms head.terms) head.lot head.bidder head.sequence amount note.now) place.old }
+    ensures place { place.new ≡ left result (bid (E.kind engine.now) key.now (bytes_of_terms head.terms) head.fields.lot head.fields.bidder head.fields.sequence amount note.now) place.old }
 {
-    let Head {
-        lot,
-        bidder,
-        sequence,
-        terms,
-    } = head;
+    let Head { fields, terms } = head;
     check_bid(engine.variant(), key, amount, note, place)?;
-    let mut nonce = [0u8; HEAD_BYTES];
-    let mut letter = [0u8; LETTER_BYTES];
-    let mut filled = [0u8; MOST_TERMS_BYTES];
-    put_head(lot, bidder, sequence, &mut nonce);
-    write_letter(amount, note, &mut letter);
-    terms.put(&mut filled);
+    let letter = letter_of(amount, note);
+    let mut held = [0u8; MOST_TERMS_BYTES];
+    terms.put(&mut held);
     put_envelope(
         engine,
         key,
-        &nonce,
-        &filled[0..terms.bytes()],
+        &head_of(fields),
+        &held[..terms.bytes()],
         &letter,
         place,
     )
@@ -87,37 +78,32 @@ fn check_bid(
 fn put_envelope<E: Engine>(
     engine: &E,
     key: &[u8],
-    nonce: &[u8],
+    nonce: &[u8; HEAD_BYTES],
     terms: &[u8],
-    letter: &[u8],
+    letter: &[u8; LETTER_BYTES],
     place: &mut [u8],
 ) -> Result<(), EnvelopeFault>
     requires key { length key.now ≡ 16 }
-    requires nonce { length nonce.now ≡ 12 }
     requires terms { length terms.now ≤ 64 }
-    requires letter { length letter.now ≡ 64 }
     requires place { length place.old ≡ envelope_size (E.kind engine.now) }
     ensures granted { result ≡ Ok tt }
     ensures place { place.new ≡ enveloped (E.kind engine.now) key.now terms.now nonce.now letter.now }
 {
-    let t = tag_bytes(engine.variant());
     let mut sealed = [0u8; LETTER_BYTES];
+    // Room for the longest tag, cut to the variant's, as there is no heap.
     let mut tag = [0u8; MOST_TAG_BYTES];
-    let tag = &mut tag[0..t];
+    let tag = &mut tag[..tag_bytes(engine.variant())];
     seal(engine, key, nonce, terms, letter, &mut sealed, tag)?;
     put_parts(nonce, &sealed, tag, place);
     Ok(())
 }
 
 // Writes the parts of an envelope, one after another.
-fn put_parts(head: &[u8], sealed: &[u8], tag: &[u8], place: &mut [u8])
-    requires head { length head.now ≡ 12 }
-    requires sealed { length sealed.now ≡ 64 }
-    requires place { length place.old ≡ 76 + length tag.now }
+fn put_parts(head: &[u8; HEAD_BYTES], sealed: &[u8; LETTER_BYTES], tag: &[u8], place: &mut [u8])
+    requires { length place.old ≡ 76 + length tag.now }
     ensures { place.new ≡ head.now ++ (sealed.now ++ tag.now) }
 {
-    let n = place.len();
-    place[0..HEAD_BYTES].copy_from_slice(head);
+    place[..HEAD_BYTES].copy_from_slice(head);
     place[HEAD_BYTES..TAG_AT].copy_from_slice(sealed);
-    place[TAG_AT..n].copy_from_slice(tag);
+    place[TAG_AT..].copy_from_slice(tag);
 }

@@ -4,9 +4,9 @@ ghost use Rattle.envelope.specs.Faults.{fault_number, fault_layer, fault_place};
 ghost use Rattle.envelope.specs.declared.faults.EnvelopeFault.TheVariants.{Cipher as by_cipher};
 
 use cipher::CipherFault;
-use fault::{Layer, Place};
+use fault::{Fault, Layer, Place};
 
-#[derive(Clone, Copy)]
+#[derive(Clone, Copy, PartialEq, Eq, Debug)]
 pub enum EnvelopeFault {
     // The terms have more than 64 bytes.
     TermsLength,
@@ -22,10 +22,14 @@ pub enum EnvelopeFault {
     Cipher(CipherFault),
 }
 
-impl EnvelopeFault {
-    pub fn number(self) -> u8
-        ensures { result ≡ fault_number self }
-    {
+impl Fault for EnvelopeFault {
+    ghost number_is = { fault_number };
+
+    ghost layer_is = { fault_layer };
+
+    ghost place_is = { fault_place };
+
+    fn number(self) -> u8 {
         match self {
             EnvelopeFault::TermsLength => 15,
             EnvelopeFault::HeadsSpent => 19,
@@ -36,15 +40,11 @@ impl EnvelopeFault {
         }
     }
 
-    pub fn layer(self) -> Layer
-        ensures { result ≡ fault_layer self }
-    {
+    fn layer(self) -> Layer {
         Layer::Envelope
     }
 
-    pub fn place(self) -> Place
-        ensures { result ≡ fault_place self }
-    {
+    fn place(self) -> Place {
         Place::Zero
     }
 }

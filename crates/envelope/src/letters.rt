@@ -2,10 +2,10 @@
 ghost use Rattle.std.specs.Prelude.{◌≡◌, ◌≤◌, length};
 ghost use Rattle.envelope.specs.Letters.{letter as letter_for, lawful, amount_offered, only_zeros};
 
-use big_endian::{number_of, put_number};
+// The bytes of a letter.
+pub const LETTER_BYTES: usize = 64;
 
-pub(crate) const LETTER_BYTES: usize = 64;
-
+// The most bytes of a note.
 pub(crate) const MOST_NOTE_BYTES: usize = 55;
 
 // The most that an amount may be, in cents.
@@ -15,53 +15,48 @@ const NOTE_LENGTH_AT: usize = 8;
 
 const NOTE_AT: usize = NOTE_LENGTH_AT + 1;
 
-// Writes the letter of an amount and a note.
-pub(crate) fn write_letter(amount: u64, note: &[u8], letter: &mut [u8])
-    requires note { length note.now ≤ 55 }
-    requires letter { length letter.old ≡ 64 }
-    ensures { letter.new ≡ letter_for amount note.now }
+// The letter of an amount and a note.
+pub(crate) fn letter_of(amount: u64, note: &[u8]) -> [u8; LETTER_BYTES]
+    requires { length note.now ≤ 55 }
+    ensures { result ≡ letter_for amount note.now }
 {
-    letter.fill(0);
-    put_number(amount as u128, &mut letter[0..NOTE_LENGTH_AT]);
+    let mut letter = [0u8; LETTER_BYTES];
+    letter[..NOTE_LENGTH_AT].copy_from_slice(&amount.to_be_bytes());
     letter[NOTE_LENGTH_AT] = note.len() as u8;
     letter[NOTE_AT..NOTE_AT + note.len()].copy_from_slice(note);
+    letter
 }
 
-// The amount that a letter offers, or 0 where it is unlawful.
+// The amount that a letter offers. It is 0 where the letter is unlawful: by the rules such a letter offers nothing, as one of amount 0.
 pub fn amount_in(letter: &[u8]) -> u64
     ensures { result ≡ amount_offered letter.now }
 {
-    if !is_lawful(letter) {
-        return 0;
+    match letter.first_chunk() {
+        Some(amount) if is_lawful(letter) => u64::from_be_bytes(*amount),
+        _ => 0,
     }
-    number_of(&letter[0..NOTE_LENGTH_AT]) as u64
 }
 
 // Whether a letter is lawful: all of its bytes are looked at, and not its note alone.
 pub fn is_lawful(letter: &[u8]) -> bool
     ensures { result ≡ lawful letter.now }
 {
-    if letter.len() != LETTER_BYTES {
+    let Some((amount, rest)) = letter.split_first_chunk() else {
         return false;
-    }
-    let note_bytes = letter[NOTE_LENGTH_AT] as usize;
-    if number_of(&letter[0..NOTE_LENGTH_AT]) > MOST_CENTS as u128 {
+    };
+    let [note_bytes, text @ ..] = rest else {
         return false;
-    }
-    if note_bytes > MOST_NOTE_BYTES {
-        return false;
-    }
-    all_zero(&letter[NOTE_AT + note_bytes..])
+    };
+    let note_bytes = *note_bytes as usize;
+    letter.len() == LETTER_BYTES
+        && u64::from_be_bytes(*amount) <= MOST_CENTS
+        && note_bytes <= MOST_NOTE_BYTES
+        && all_zero(&text[note_bytes..])
 }
 
 // Whether all bytes are zero.
 fn all_zero(bytes: &[u8]) -> bool
     ensures { result ≡ only_zeros bytes.now }
 {
-    for b in bytes {
-        if *b != 0 {
-            return false;
-        }
-    }
-    true
+    bytes.iter().all(|b| *b == 0)
 }

@@ -11,7 +11,8 @@ mod theorems;
 
 pub use bids::{envelope_bytes, seal_bid};
 pub use faults::EnvelopeFault;
-pub use heads::{Head, Parts, head_of, parts_of};
-pub use letters::{amount_in, is_lawful};
+pub use heads::{HEAD_BYTES, Head, HeadFields, Parts, head_of, parts_of};
+pub use letters::{LETTER_BYTES, amount_in, is_lawful};
 pub use pens::Pen;
+pub use terms::MOST_TERMS_BYTES;
 pub use theorems::envelope_laws_stand;

@@ -3,7 +3,7 @@ ghost use Rattle.std.specs.Prelude.{◌≡◌};
 ghost use Rattle.envelope.specs.Pens.{pen_answer, pen_seen, Taken};
 
 use crate::faults::EnvelopeFault;
-use crate::heads::Head;
+use crate::heads::{Head, HeadFields};
 use crate::terms::{MOST_TERMS_BYTES, Terms};
 
 const LAST_SEQUENCE: u32 = 4_294_967_295;
@@ -39,10 +39,13 @@ impl Pen {
             return Err(EnvelopeFault::HeadsSpent);
         }
         self.given += 1;
-        Ok(Head {
+        let fields = HeadFields {
             lot: self.lot,
             bidder,
             sequence: self.given,
+        };
+        Ok(Head {
+            fields,
             terms: self.terms,
         })
     }

@@ -1,10 +1,10 @@
 // Terms: what a lot is sold under, up to 64 bytes, held as plain numbers.
-ghost use Rattle.std.specs.Prelude.{◌≡◌, ◌≤◌, ◌++◌, length, take, drop};
-ghost use Rattle.envelope.specs.Terms.{bytes_of_terms, held_bytes};
+ghost use Rattle.std.specs.Prelude.{◌≡◌, ◌≤◌, length, take};
 
 use big_endian::{number_of, put_number};
 
-pub(crate) const MOST_TERMS_BYTES: usize = 64;
+// The most bytes that terms may have.
+pub const MOST_TERMS_BYTES: usize = 64;
 
 // Four numbers of sixteen bytes each, filled with zeros after the terms, and how many bytes the terms have.
 #[derive(Clone, Copy)]
@@ -14,57 +14,52 @@ pub struct Terms {
     c: u128,
     d: u128,
     len: u8,
+    ghost short: { len ≤ 64 },
 }
 
 impl Terms {
+    ghost use Rattle.envelope.specs.Terms.{bytes_of_terms, held_bytes};
+
     // The terms that the bytes write.
     pub(crate) fn new(bytes: &[u8]) -> Terms
         requires { length bytes.now ≤ 64 }
         ensures { bytes_of_terms result ≡ bytes.now }
     {
-        let mut filled = [0u8; MOST_TERMS_BYTES];
-        put_first(bytes, &mut filled);
-        numbers_of(&filled, bytes.len() as u8)
+        let mut held = [0u8; MOST_TERMS_BYTES];
+        held[..bytes.len()].copy_from_slice(bytes);
+        Terms::held_in(&held, bytes.len() as u8)
+    }
+
+    // The terms that the first of these bytes write, `len` of them.
+    fn held_in(held: &[u8], len: u8) -> Terms
+        requires held { length held.now ≡ 64 }
+        requires len { len ≤ 64 }
+        ensures { bytes_of_terms result ≡ take len held.now }
+    {
+        Terms {
+            a: number_of(&held[0..16]),
+            b: number_of(&held[16..32]),
+            c: number_of(&held[32..48]),
+            d: number_of(&held[48..64]),
+            len,
+        }
     }
 
     // How many bytes the terms have.
+    #[tactic(auto, using(crate::proofs::TermsLaws::terms_length))]
     pub(crate) fn bytes(self) -> usize
         ensures { result ≡ length (bytes_of_terms self) }
     {
-        MOST_TERMS_BYTES.min(self.len as usize)
+        self.len as usize
     }
 
-    // Writes the terms, and zeros after them.
-    pub(crate) fn put(self, filled: &mut [u8])
-        requires { length filled.old ≡ 64 }
-        ensures { filled.new ≡ held_bytes self }
+    // Writes the bytes of the terms, and zeros after them.
+    pub(crate) fn put(self, held: &mut [u8; MOST_TERMS_BYTES])
+        ensures { held.new ≡ held_bytes self }
     {
-        put_number(self.a, &mut filled[0..16]);
-        put_number(self.b, &mut filled[16..32]);
-        put_number(self.c, &mut filled[32..48]);
-        put_number(self.d, &mut filled[48..64]);
-    }
-}
-
-// Writes the bytes to the front of a place.
-fn put_first(bytes: &[u8], place: &mut [u8])
-    requires { length bytes.now ≤ length place.old }
-    ensures { place.new ≡ bytes.now ++ drop (length bytes.now) place.old }
-{
-    let n = bytes.len();
-    place[0..n].copy_from_slice(bytes);
-}
-
-// The terms that the first of 64 bytes write, len of them.
-fn numbers_of(filled: &[u8], len: u8) -> Terms
-    requires { length filled.now ≡ 64 }
-    ensures { bytes_of_terms result ≡ take len filled.now }
-{
-    Terms {
-        a: number_of(&filled[0..16]),
-        b: number_of(&filled[16..32]),
-        c: number_of(&filled[32..48]),
-        d: number_of(&filled[48..64]),
-        len,
+        put_number(self.a, &mut held[0..16]);
+        put_number(self.b, &mut held[16..32]);
+        put_number(self.c, &mut held[32..48]);
+        put_number(self.d, &mut held[48..64]);
     }
 }

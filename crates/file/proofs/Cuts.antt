@@ -1,15 +1,19 @@
--- The first line of a file, by the place of its byte 10.
-use Rattle.std.proofs.Common.{◌≡◌, ℕ, suc, ◌+◌, ◌<◌, ◌≤◌, Bool, true, false, eqb, ◌⊎◌, List, [], ◌∷◌, length, take, drop, Some, None, Err, sym, refl, ap, ◌∙◌, inl, inr, ⊎_elim, add-one, one-add, arith}
-use Rattle.std.proofs.lemmas.List.{drop_all, drop-drop}
+-- The first line of a file, by the place of its byte 10, and what a reader does at it.
+use Rattle.std.proofs.Common.{◌≡◌, ℕ, suc, ◌+◌, ◌-◌, ◌<◌, ◌≤◌, Bool, true, false, eqb, ◌⊎◌, List, [], ◌∷◌, length, take, drop, Some, None, Ok, Err, sym, refl, ap, ◌∙◌, inl, inr, ⊎_elim, add-one, one-add, arith}
+use Rattle.std.proofs.lemmas.List.{drop_all, drop-drop, length-drop}
+use Rattle.std.proofs.lemmas.Bool.{ltb-true, ltb-false}
 use Rattle.file.specs.declared.faults.FileFault.{FileFault}
-use Rattle.file.specs.declared.faults.FileFault.TheVariants.{Form, TooLong}
+use Rattle.file.specs.declared.faults.FileFault.TheVariants.{Form}
+use Rattle.file.specs.declared.line.Line.{Line}
 use Rattle.file.specs.declared.line.Section.{Section}
 use Rattle.file.specs.declared.line.Section.TheVariants.{LotNames, LotValues, LotEnd, BidderNames, FirstBidder, Bidders, EnvelopeNames, Envelopes}
 use Rattle.file.specs.declared.reader.Reader.{Reader}
-use Rattle.file.specs.Form.{Verdict, judged, after_verdict, at_the_end, Items, end, broken, items}
-use Rattle.file.specs.Read.{left_of, first_of, rest_of}
+use Rattle.file.specs.Form.{judged, after_verdict, at_the_end, end, broken, item, items}
+use Rattle.file.specs.Read.{left_of, items_if, first_of, rest_of}
+use Rattle.file.specs.Said.{item_of}
+use Rattle.file.specs.Stepping.{Moves, GivesNext}
 use Rattle.file.specs.Lines.{Lines, finished, torn, line, lengthened, lines}
-use Rattle.file.specs.Fields.{place_of}
+use Rattle.file.specs.Fields.{place_of, holds}
 
 -- the place of b one byte on
 place_here : (b c : ℕ) (cs : List ℕ) → eqb c b ≡ true → place_of b (c ∷ cs) ≡ 0
@@ -40,11 +44,6 @@ cut_first : (bs : List ℕ) → place_of 10 bs < length bs → lines bs ≡ line
 cut_first [] l = absurd (omega arith)
 cut_first (c ∷ cs) l = cut_by c cs (eqb c 10) refl l (cut_first cs)
 
--- a file whose first byte 10 is at k begins with the line of the bytes before it
-pub cut_line : (bs : List ℕ) (k : ℕ) → k ≡ place_of 10 bs → k < length bs → lines bs ≡ line (take k bs) (lines (drop (k + 1) bs))
-cut_line bs k e l =
-    cut_first bs (omega arith) ∙ ap (λ j. line (take j bs) (lines (drop (suc j) bs))) (sym e) ∙ ap (λ j. line (take k bs) (lines (drop j bs))) (sym (add-one k))
-
 lengthened_open : (c : ℕ) (ls : Lines) → (ls ≡ finished) ⊎ (ls ≡ torn) → lengthened c ls ≡ torn
 lengthened_open c ls h = ⊎_elim (λ e. ap (lengthened c) e) (λ e. ap (lengthened c) e) h
 
@@ -61,43 +60,26 @@ unfolding lines
 open_end [] l = inl refl
 open_end (c ∷ cs) l = inr (open_by c cs (eqb c 10) refl l (open_end cs))
 
-pub cut_torn : (bs : List ℕ) (k : ℕ) → k ≡ place_of 10 bs → length bs ≤ k → 0 < length bs → lines bs ≡ torn
-cut_torn [] k e l p = absurd (omega arith)
-cut_torn (c ∷ cs) k e l p = open_by c cs (eqb c 10) refl (omega arith) (open_end cs)
+cut_torn : (bs : List ℕ) → length bs ≤ place_of 10 bs → 0 < length bs → lines bs ≡ torn
+cut_torn [] l p = absurd (omega arith)
+cut_torn (c ∷ cs) l p = open_by c cs (eqb c 10) refl l (open_end cs)
 
-pub no_lines : (bs : List ℕ) (i : ℕ) → length bs ≤ i → lines (drop i bs) ≡ finished
-unfolding lines
-no_lines bs i l = ap lines (drop_all i bs l)
+-- what lines say where the first is not ended, where it is, and where there is none
+pub items_torn : (s : Section) (n : ℕ) (bs : List ℕ) → holds 10 bs ≡ false → 0 < length bs → items s n (lines bs) ≡ broken (Form n)
+unfolding items
+items_torn s n bs h z = rw (cut_torn bs (ltb-false (place_of 10 bs) (length bs) h) z) refl
 
--- what a reader has left, where its next line is not ended, where it is, and at the end of the file
-pub left_torn : (r : Reader) (k : ℕ) (rest : List ℕ) → r.long ≡ false → rest ≡ drop r.at r.text.now → k ≡ place_of 10 rest → length rest ≤ k → 0 < length rest
-    → left_of r ≡ broken (Form r.line)
-unfolding left_of items
-left_torn r k rest h e p l z =
-    let t : lines (drop r.at r.text.now) ≡ torn = ap lines (sym e) ∙ cut_torn rest k p l z in
-    rw h (rw t refl)
+pub items_line : (s : Section) (n : ℕ) (bs : List ℕ) → holds 10 bs ≡ true
+    → items s n (lines bs) ≡ after_verdict (judged s n (take (place_of 10 bs) bs)) (λ next. items next (n + 1) (lines (drop (place_of 10 bs + 1) bs)))
+unfolding items
+items_line s n bs h = rw (cut_first bs (ltb-true (place_of 10 bs) (length bs) h)) (rw (add-one (place_of 10 bs)) refl)
 
-pub left_line : (r : Reader) (k : ℕ) (rest l : List ℕ) (v : Verdict) → r.long ≡ false → rest ≡ drop r.at r.text.now → k ≡ place_of 10 rest → k < length rest
-    → l ≡ take k rest → v ≡ judged r.section r.line l
-    → left_of r ≡ after_verdict v (λ next. items next (r.line + 1) (lines (drop (r.at + k + 1) r.text.now)))
-unfolding left_of items
-left_line r k rest l v h e p lt el ev =
-    let d : drop (k + 1) rest ≡ drop (r.at + k + 1) r.text.now =
-    ap (drop (k + 1)) e ∙ drop-drop (k + 1) r.at r.text.now ∙ (let n : r.at + (k + 1) ≡ r.at + k + 1 = omega arith in ap (λ j. drop j r.text.now) n) in
-    let t : lines (drop r.at r.text.now) ≡ line l (lines (drop (r.at + k + 1) r.text.now)) =
-    ap lines (sym e) ∙ cut_line rest k p lt ∙ ap (λ x. line x (lines (drop (k + 1) rest))) (sym el) ∙ ap (λ x. line l (lines x)) d in
-    rw h (rw t (rw ev refl))
-
-pub left_end : (r : Reader) → r.long ≡ false → length r.text.now ≤ r.at → left_of r ≡ at_the_end r.section r.line
-unfolding left_of items
-left_end r h l = rw h (rw (no_lines r.text.now r.at l) refl)
-
-pub left_long : (r : Reader) → r.long ≡ true → left_of r ≡ broken TooLong
-unfolding left_of
-left_long r h = rw h refl
+left_end : (r : Reader) → length r.rest.now ≡ 0 → left_of r ≡ items_if r.wants r.line finished
+unfolding left_of lines
+left_end r z = ap (λ bs. items_if r.wants r.line (lines bs)) (drop_all 0 r.rest.now (omega arith))
 
 -- a file may end in no other section
-pub not_the_end : (s : Section) (n : ℕ) → (s ≡ Envelopes → ⊥) → at_the_end s n ≡ broken (Form n)
+not_the_end : (s : Section) (n : ℕ) → (s ≡ Envelopes → ⊥) → at_the_end s n ≡ broken (Form n)
 not_the_end LotNames n h = refl
 not_the_end LotValues n h = refl
 not_the_end LotEnd n h = refl
@@ -107,9 +89,33 @@ not_the_end Bidders n h = refl
 not_the_end EnvelopeNames n h = refl
 not_the_end Envelopes n h = absurd (h refl)
 
--- a reader that is refused gives the fault and has it still to give
-pub stays_refused : (x y : Items) (f : FileFault) → x ≡ broken f → y ≡ x → (Some (Err f) ≡ first_of x) × (y ≡ rest_of x)
-stays_refused x y f e s = (sym (ap first_of e), s ∙ e ∙ sym (ap rest_of e))
+-- what is left at the end of a file
+pub left_refused : (r : Reader) (f : FileFault) → length r.rest.now ≡ 0 → r.wants ≡ Err f → left_of r ≡ broken f
+left_refused r f z w = left_end r z ∙ ap (λ x. items_if x r.line finished) w
 
-pub stays_ended : (x y : Items) → x ≡ end → y ≡ x → (None ≡ first_of x) × (y ≡ rest_of x)
-stays_ended x y e s = (sym (ap first_of e), s ∙ e ∙ sym (ap rest_of e))
+pub left_ended : (r : Reader) → length r.rest.now ≡ 0 → r.wants ≡ Ok Envelopes → left_of r ≡ end
+unfolding items
+left_ended r z w = left_end r z ∙ ap (λ x. items_if x r.line finished) w
+
+pub left_missing : (r : Reader) (s : Section) → length r.rest.now ≡ 0 → r.wants ≡ Ok s → (s ≡ Envelopes → ⊥) → left_of r ≡ broken (Form r.line)
+unfolding items
+left_missing r s z w h = left_end r z ∙ ap (λ x. items_if x r.line finished) w ∙ not_the_end s r.line h
+
+-- bytes that are left of others
+abbrev pub Behind : List ℕ → List ℕ → Type 0
+Behind bs cs = (k : ℕ) × (k ≤ length bs) × (cs ≡ drop k bs)
+
+pub moves_on : (a b c : Reader) → Behind a.rest.now b.rest.now → Moves b c → Moves a c
+moves_on a b c h m =
+    let l : length b.rest.now ≡ length a.rest.now - h.0 = ap length h.2 ∙ length-drop h.0 a.rest.now in
+    (h.0 + m.0, omega arith, omega arith, m.3 ∙ ap (drop m.0) h.2 ∙ drop-drop m.0 h.0 a.rest.now)
+
+-- what a reader gives that began at a, has passed lines that say nothing up to b, and stops at c
+pub gives_line : (a b c : Reader) (l : Line) → left_of b ≡ left_of a → Behind a.rest.now b.rest.now → left_of b ≡ item (item_of l) (left_of c) → Moves b c → GivesNext a (Some (Ok l)) c
+gives_line a b c l e h i m = record { gives = ap first_of (sym i ∙ e); leaves = ap rest_of (sym i ∙ e); goes_on = moves_on a b c h m }
+
+pub gives_fault : (a b : Reader) (f : FileFault) → left_of b ≡ left_of a → left_of b ≡ broken f → GivesNext a (Some (Err f)) b
+gives_fault a b f e i = record { gives = ap first_of (sym i ∙ e); leaves = i ∙ ap rest_of (sym i ∙ e); goes_on = tt }
+
+pub gives_end : (a b : Reader) → left_of b ≡ left_of a → left_of b ≡ end → GivesNext a None b
+gives_end a b e i = record { gives = ap first_of (sym i ∙ e); leaves = i ∙ ap rest_of (sym i ∙ e); goes_on = tt }

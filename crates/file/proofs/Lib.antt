@@ -1,7 +1,6 @@
 pub mod Cuts
 pub mod Lawful
 pub mod Pairs
-pub mod Places
 pub mod Registers
 pub mod Sound
 pub mod Takes

@@ -1,20 +1,15 @@
 -- Hexadecimal digits, one after the other and two by two.
-use Rattle.std.proofs.Common.{◌≡◌, ℕ, zero, suc, ◌+◌, ◌*◌, ◌<◌, ◌≤◌, true, false, List, [], ◌∷◌, ◌++◌, length, get_or, take, drop, set, sym, refl, ap, ◌∙◌, arith}
-use Rattle.std.proofs.lemmas.List.{at_drop_more, at_drop_all, drop_more, drop_all, append-nil, append_assoc, take_more_set, take_all}
+use Rattle.std.proofs.Common.{◌≡◌, ℕ, zero, suc, ◌+◌, ◌*◌, ◌<◌, ◌≤◌, true, ◌&&◌, List, [], ◌∷◌, ◌++◌, length, get_or, take, drop, set, sym, refl, ap, ◌∙◌, arith}
+use Rattle.std.specs.List.{list_all}
+use Rattle.std.proofs.lemmas.List.{drop_more, drop_all, append-nil, append_assoc, take_more_set, take_all}
 use Rattle.std.proofs.lemmas.Bool.{and_parts}
 use Rattle.file.specs.Hexadecimal.{is_hex_digit, all_hex_digits, digit_value, written_bytes}
 
-pub hex_more : (ds : List ℕ) (i : ℕ) → i < length ds → is_hex_digit (get_or ds i 0) ≡ true → all_hex_digits (drop i ds) ≡ all_hex_digits (drop (i + 1) ds)
+-- the digits are all that the definition's recursion asks of each
+pub hex_all : (ds : List ℕ) → list_all (λ c. is_hex_digit c) ds ≡ all_hex_digits ds
 unfolding all_hex_digits
-hex_more ds i l d = at_drop_more all_hex_digits ds i 0 l ∙ rw d refl
-
-pub hex_other : (ds : List ℕ) (i : ℕ) → i < length ds → is_hex_digit (get_or ds i 0) ≡ false → all_hex_digits (drop i ds) ≡ false
-unfolding all_hex_digits
-hex_other ds i l d = at_drop_more all_hex_digits ds i 0 l ∙ rw d refl
-
-pub hex_end : (ds : List ℕ) (i : ℕ) → length ds ≤ i → all_hex_digits (drop i ds) ≡ true
-unfolding all_hex_digits
-hex_end ds i l = at_drop_all all_hex_digits ds i l
+hex_all [] = refl
+hex_all (c ∷ cs) = ap (λ b. is_hex_digit c && b) (hex_all cs)
 
 pub hex_at : (ds : List ℕ) (i : ℕ) → i < length ds → all_hex_digits ds ≡ true → is_hex_digit (get_or ds i 0) ≡ true
 unfolding all_hex_digits

@@ -1,16 +1,16 @@
 -- What lines say is well formed: keys are 32 digits, envelopes an even number of them.
-use Rattle.std.proofs.Common.{◌≡◌, ℕ, ◌+◌, Bool, true, false, ◌&&◌, leb, List, [], length, Some, None, Ok, Err, codes, Option, refl, ap, subst, arith}
+use Rattle.std.proofs.Common.{◌≡◌, ℕ, ◌+◌, Bool, true, false, ◌&&◌, leb, List, [], length, Some, None, Ok, Err, codes, Option, Result, refl, ap, subst, arith}
 use Rattle.std.specs.Str.{bytes_eq}
 use Rattle.std.proofs.lemmas.Bool.{cond_both}
 use Rattle.engine.specs.declared.variants.Variant.{Variant}
-use Rattle.file.specs.Lines.{Lines, finished, torn, line}
+use Rattle.file.specs.Lines.{Lines, finished, torn, line, lines}
 use Rattle.file.specs.Fields.{holds_comma, field, behind}
 use Rattle.file.specs.Numbers.{number_of}
 use Rattle.file.specs.Form.{Item, lot_item, bidder_item, envelope_item, variant_of, lot_values, is_key, bidder_values, bidder_line_item, is_envelope, envelope_line_item, Verdict, refused, passed, said, line_must_be, line_must_say, judged, Items, end, broken, item, after_verdict, at_the_end, items}
 use Rattle.file.specs.Said.{WellFormed}
-use Rattle.file.specs.Read.{left_of, first_of, rest_of}
+use Rattle.file.specs.Read.{left_of, items_if, first_of, rest_of}
 use Rattle.file.specs.declared.faults.FileFault.{FileFault}
-use Rattle.file.specs.declared.faults.FileFault.TheVariants.{Form, TermsLength, TooLong}
+use Rattle.file.specs.declared.faults.FileFault.TheVariants.{Form, TermsLength}
 use Rattle.file.specs.declared.reader.Reader.{Reader}
 use Rattle.file.specs.declared.line.Section.{Section}
 use Rattle.file.specs.declared.line.Section.TheVariants.{LotNames, LotValues, LotEnd, BidderNames, FirstBidder, Bidders, EnvelopeNames, Envelopes}
@@ -75,9 +75,13 @@ items_well_formed s n finished = end_well_formed s n
 items_well_formed s n torn = tt
 items_well_formed s n (line l ls) = after_fair (judged s n l) (λ next. items next (n + 1) ls) (fair s n l) (λ k. items_well_formed k (n + 1) ls)
 
+left_by : (wants : Result Section FileFault) (n : ℕ) (ls : Lines) → AllWellFormed (items_if wants n ls)
+left_by (Ok s) n ls = items_well_formed s n ls
+left_by (Err f) n ls = tt
+
 pub left_well_formed : (r : Reader) → AllWellFormed (left_of r)
 unfolding left_of
-left_well_formed r = cond_both r.long (broken TooLong) _ AllWellFormed (λ e. tt) (λ e. items_well_formed r.section r.line _)
+left_well_formed r = left_by r.wants r.line (lines r.rest.now)
 
 pub first_well_formed : (is : Items) (i : Item) → Some (Ok i) ≡ first_of is → AllWellFormed is → WellFormed i
 first_well_formed end i e h = absurd (let z : ◌≡◌ {A = ℕ} 0 1 = cc in omega arith)

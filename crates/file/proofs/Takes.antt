@@ -1,89 +1,38 @@
 -- What is gathered when a line is taken in, and when the lines end.
-use Rattle.std.proofs.Common.{◌≡◌, ℕ, ◌+◌, ◌-◌, ◌≤◌, List, ◌++◌, length, take, drop, Some, None, Ok, Err, Result, sym, ap, ◌∙◌, arith, Bor}
-use Rattle.std.proofs.lemmas.List.{drop-drop, length-take-le, take-append-drop}
-use Rattle.engine.specs.declared.variants.Variant.{Variant}
+use Rattle.std.proofs.Common.{◌≡◌, ℕ, ◌+◌, ◌-◌, List, drop, Some, None, Ok, Err, Option, Result, sym, refl, ap, ◌∙◌, arith}
+use Rattle.std.proofs.lemmas.List.{drop-drop}
+use Rattle.std.specs.Result.{result_transpose}
 use Rattle.list.specs.declared.faults.ListFault.{ListFault}
-use Rattle.file.specs.Contents.{Sale, with_register, and_then, or_stop, enrolled, gathered, enrolled_in}
-use Rattle.file.specs.Enrolling.{enrolling_answer, register_after, sale_of, written_over}
+use Rattle.file.specs.Contents.{Sale, with_register, and_then, or_stop, gathered, enrolled_in}
+use Rattle.file.specs.Enrolling.{enrolling_answer, register_after, goes_on, enrols_on, KeepsRest}
 use Rattle.file.specs.Form.{Item, Items, end, broken, item}
 use Rattle.file.specs.Hexadecimal.{written_bytes}
-use Rattle.file.specs.Read.{first_of, rest_of}
-use Rattle.file.specs.Said.{item_of}
+use Rattle.file.specs.Read.{given, first_of, rest_of}
 use Rattle.file.specs.declared.faults.FileFault.{FileFault}
-use Rattle.file.specs.declared.gathering.Gathered.{Gathered}
+use Rattle.file.specs.declared.gathering.Gathering.{Gathering}
 use Rattle.file.specs.declared.line.Line.{Line}
-use Rattle.file.specs.declared.line.Line.TheVariants.{Lot, Bidder, Envelope}
 use Rattle.room.specs.declared.register.RegisterEntry.{RegisterEntry}
 use Rattle.file.proofs.Sound.{first_then, first_broken, first_ended}
 
 abbrev pub bidder_of : ℕ → List ℕ → RegisterEntry
 bidder_of b key = record { bidder = b; key = written_bytes key }
 
-pub lot_taken : (g : Gathered) (xs : List RegisterEntry) (l : Line) (lot : ℕ) (v : Variant) (t : Bor (List ℕ)) → l ≡ Lot lot v t → (is : Items)
-    → gathered (sale_of g xs) (item (item_of l) is) ≡ gathered (record { lot = lot; variant = v; terms = t.now; register = xs }) is
-unfolding gathered
-lot_taken g xs l lot v t e is = ap (λ z. gathered (sale_of g xs) (item (item_of z) is)) e
+-- a bidder that is enrolled, or refused
+pub bidder_gathers : (n : ℕ) (R : Result (List RegisterEntry) ListFault) (s t : Sale) (r : Result (Unit {0}) FileFault)
+    → r ≡ enrolling_answer n R → t ≡ with_register (register_after R s.register) s → (is : Items)
+    → and_then n R (λ register. gathered (with_register register s) is) ≡ goes_on r t is
+bidder_gathers n (Ok register) s t r a e is = rw a (rw e refl)
+bidder_gathers n (Err f) s t r a e is = rw a refl
 
-pub lot_enrols : (xs : List RegisterEntry) (l : Line) (lot : ℕ) (v : Variant) (t : Bor (List ℕ)) → l ≡ Lot lot v t → (is : Items) → enrolled_in xs (item (item_of l) is) ≡ enrolled_in xs is
-unfolding enrolled_in
-lot_enrols xs l lot v t e is = ap (λ z. enrolled_in xs (item (item_of z) is)) e
+pub bidder_enrols : (n : ℕ) (R : Result (List RegisterEntry) ListFault) (s t : Sale) (r : Result (Unit {0}) FileFault)
+    → r ≡ enrolling_answer n R → t ≡ with_register (register_after R s.register) s → (is : Items)
+    → or_stop R s.register (λ register. enrolled_in register is) ≡ enrols_on r t.register is
+bidder_enrols n (Ok register) s t r a e is = rw a (rw e refl)
+bidder_enrols n (Err f) s t r a e is = rw a (sym (ap (λ x. x.register) e))
 
-pub envelope_taken : (s : Sale) (l : Line) (n : ℕ) (d : Bor (List ℕ)) → l ≡ Envelope n d → (is : Items) → gathered s (item (item_of l) is) ≡ gathered s is
-unfolding gathered
-envelope_taken s l n d e is = ap (λ z. gathered s (item (item_of z) is)) e
-
-pub envelope_enrols : (xs : List RegisterEntry) (l : Line) (n : ℕ) (d : Bor (List ℕ)) → l ≡ Envelope n d → (is : Items) → enrolled_in xs (item (item_of l) is) ≡ enrolled_in xs is
-unfolding enrolled_in
-envelope_enrols xs l n d e is = ap (λ z. enrolled_in xs (item (item_of z) is)) e
-
--- a bidder that is enrolled
-on_granted : (n : ℕ) (R : Result (List RegisterEntry) ListFault) (xs ys : List RegisterEntry) (go_on : List RegisterEntry → Result Sale FileFault)
-    → Ok tt ≡ enrolling_answer n R → ys ≡ register_after R xs → and_then n R go_on ≡ go_on ys
-on_granted n (Ok register) xs ys go_on a e = ap go_on (sym e)
-on_granted n (Err f) xs ys go_on a e = absurd (let z : ◌≡◌ {A = ℕ} 0 1 = cc in omega arith)
-
-stop_granted : (n : ℕ) (R : Result (List RegisterEntry) ListFault) (xs ys : List RegisterEntry) (go_on : List RegisterEntry → List RegisterEntry)
-    → Ok tt ≡ enrolling_answer n R → ys ≡ register_after R xs → or_stop R xs go_on ≡ go_on ys
-stop_granted n (Ok register) xs ys go_on a e = ap go_on (sym e)
-stop_granted n (Err f) xs ys go_on a e = absurd (let z : ◌≡◌ {A = ℕ} 0 1 = cc in omega arith)
-
-pub bidder_taken : (g : Gathered) (xs ys : List RegisterEntry) (l : Line) (n b : ℕ) (key : Bor (List ℕ)) → l ≡ Bidder n b key
-    → Ok tt ≡ enrolling_answer n (enrolled (bidder_of b key.now) xs) → ys ≡ register_after (enrolled (bidder_of b key.now) xs) xs → (is : Items)
-    → gathered (sale_of g xs) (item (item_of l) is) ≡ gathered (sale_of g ys) is
-unfolding gathered
-bidder_taken g xs ys l n b key e a r is =
-    ap (λ z. gathered (sale_of g xs) (item (item_of z) is)) e
-    ∙ on_granted n (enrolled (bidder_of b key.now) xs) xs ys (λ register. gathered (with_register register (sale_of g xs)) is) a r
-
-pub bidder_enrols : (xs ys : List RegisterEntry) (l : Line) (n b : ℕ) (key : Bor (List ℕ)) → l ≡ Bidder n b key
-    → Ok tt ≡ enrolling_answer n (enrolled (bidder_of b key.now) xs) → ys ≡ register_after (enrolled (bidder_of b key.now) xs) xs → (is : Items)
-    → enrolled_in xs (item (item_of l) is) ≡ enrolled_in ys is
-unfolding enrolled_in
-bidder_enrols xs ys l n b key e a r is =
-    ap (λ z. enrolled_in xs (item (item_of z) is)) e ∙ stop_granted n (enrolled (bidder_of b key.now) xs) xs ys (λ register. enrolled_in register is) a r
-
--- a bidder that is refused
-on_refused : (n : ℕ) (R : Result (List RegisterEntry) ListFault) (f : FileFault) (go_on : List RegisterEntry → Result Sale FileFault) → Err f ≡ enrolling_answer n R → and_then n R go_on ≡ Err f
-on_refused n (Ok register) f go_on a = absurd (let z : ◌≡◌ {A = ℕ} 0 1 = cc in omega arith)
-on_refused n (Err g) f go_on a = let p : _ = a in cc
-
-stop_refused : (n : ℕ) (R : Result (List RegisterEntry) ListFault) (xs ys : List RegisterEntry) (f : FileFault) (go_on : List RegisterEntry → List RegisterEntry)
-    → Err f ≡ enrolling_answer n R → ys ≡ register_after R xs → or_stop R xs go_on ≡ ys
-stop_refused n (Ok register) xs ys f go_on a e = absurd (let z : ◌≡◌ {A = ℕ} 0 1 = cc in omega arith)
-stop_refused n (Err g) xs ys f go_on a e = sym e
-
-pub bidder_refused : (g : Gathered) (xs : List RegisterEntry) (l : Line) (n b : ℕ) (key : Bor (List ℕ)) (f : FileFault) → l ≡ Bidder n b key
-    → Err f ≡ enrolling_answer n (enrolled (bidder_of b key.now) xs) → (is : Items) → gathered (sale_of g xs) (item (item_of l) is) ≡ Err f
-unfolding gathered
-bidder_refused g xs l n b key f e a is =
-    ap (λ z. gathered (sale_of g xs) (item (item_of z) is)) e
-    ∙ on_refused n (enrolled (bidder_of b key.now) xs) f (λ register. gathered (with_register register (sale_of g xs)) is) a
-
-pub bidder_stops : (xs ys : List RegisterEntry) (l : Line) (n b : ℕ) (key : Bor (List ℕ)) (f : FileFault) → l ≡ Bidder n b key
-    → Err f ≡ enrolling_answer n (enrolled (bidder_of b key.now) xs) → ys ≡ register_after (enrolled (bidder_of b key.now) xs) xs → (is : Items) → enrolled_in xs (item (item_of l) is) ≡ ys
-unfolding enrolled_in
-bidder_stops xs ys l n b key f e a r is =
-    ap (λ z. enrolled_in xs (item (item_of z) is)) e ∙ stop_refused n (enrolled (bidder_of b key.now) xs) xs ys f (λ register. enrolled_in register is) a r
+-- what reading answered is the first of what was left
+pub gave : (r o : Result (Option Line) FileFault) (f : Option (Result Item FileFault)) → r ≡ o → given (result_transpose r) ≡ f → given (result_transpose o) ≡ f
+gave r o f e g = ap (λ x. given (result_transpose x)) (sym e) ∙ g
 
 -- a function of what is left, over the line that a reader gave
 pub over_first : {X : Type 0} (F : Items → X) (L rest : Items) (i : Item) (x : X) → Some (Ok i) ≡ first_of L → rest ≡ rest_of L → F L ≡ x → F (item i rest) ≡ x
@@ -95,13 +44,16 @@ over_broken F L f x e h = sym (ap F (first_broken L f e)) ∙ h
 pub over_ended : {X : Type 0} (F : Items → X) (L : Items) (x : X) → None ≡ first_of L → F L ≡ x → F end ≡ x
 over_ended F L x e h = sym (ap F (first_ended L e)) ∙ h
 
--- what lies behind the register, after one more step
-pub rest_kept : (p p' q : List RegisterEntry) (c c' : ℕ) → c ≤ c' → drop c' p' ≡ drop c' p → drop c p ≡ drop c q → drop c' p' ≡ drop c' q
-rest_kept p p' q c c' l a b =
-    let n : c + (c' - c) ≡ c' = omega arith in
-    a ∙ sym (drop-drop (c' - c) c p ∙ ap (λ k. drop k p) n) ∙ ap (drop (c' - c)) b ∙ drop-drop (c' - c) c q ∙ ap (λ k. drop k q) n
+-- what lies behind the register, after no step and after one more
+pub keeps_start : (a : Gathering) → KeepsRest a a
+keeps_start a = record { more = omega arith; rest = refl }
 
-pub places_are : (p q : List RegisterEntry) (c : ℕ) (register : List RegisterEntry) → c ≤ length p → drop c p ≡ drop c q → take c p ≡ register → p ≡ written_over register q
-places_are p q c register l d e =
-    sym (take-append-drop c p) ∙ ap (λ z. z ++ drop c p) e ∙ ap (λ z. register ++ z) d
-    ∙ ap (λ k. register ++ drop k q) (sym (length-take-le c p l) ∙ ap length e)
+pub keeps_on : (a b c : Gathering) → KeepsRest a b → KeepsRest b c → KeepsRest a c
+keeps_on a b c h k =
+    let n : b.count + (c.count - b.count) ≡ c.count = let m = k.more in omega arith in
+    let behind : (p : List RegisterEntry) → drop (c.count - b.count) (drop b.count p) ≡ drop c.count p =
+    λ p. drop-drop (c.count - b.count) b.count p ∙ ap (λ i. drop i p) n in
+    record {
+      more = let m = h.more in let o = k.more in omega arith;
+      rest = k.rest ∙ sym (behind b.places.now) ∙ ap (drop (c.count - b.count)) h.rest ∙ behind a.places.now;
+    }

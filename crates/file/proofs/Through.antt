@@ -1,5 +1,5 @@
 -- Lines of a file gone through one after the other, their envelopes lodged.
-use Rattle.std.proofs.Common.{◌≡◌, ℕ, List, [], ◌∷◌, ◌++◌, Some, None, Ok, Err, sym, ap, ◌∙◌, subst, Bor}
+use Rattle.std.proofs.Common.{◌≡◌, ℕ, List, [], ◌∷◌, ◌++◌, Some, None, Ok, Err, sym, refl, ap, ◌∙◌, subst, Bor}
 use Rattle.room.specs.declared.state.RoomState.{RoomState}
 use Rattle.file.specs.Read.{first_of, rest_of}
 use Rattle.file.proofs.Sound.{first_then, first_broken, first_ended}
@@ -18,19 +18,13 @@ use Rattle.file.specs.Stepwise.{GoesThrough}
 use Rattle.file.specs.declared.line.Line.{Line}
 use Rattle.file.specs.declared.line.Line.TheVariants.{Lot, Bidder, Envelope}
 
-pub through_lot : (out : Bytes) (r : Room) (l : Line) (lot : ℕ) (v : Variant) (t : Bor (List ℕ)) → l ≡ Lot lot v t → (is : Items)
+-- a line that is no envelope
+pub through_other : (out : Bytes) (r : Room) (l : Line) → ((n : ℕ) (d : Bor (List ℕ)) → l ≡ Envelope n d → ⊥) → (is : Items)
     → GoesThrough out r (envelopes_in (item (item_of l) is)) out r (envelopes_in is)
 unfolding envelopes_in
-through_lot out r l lot v t e is =
-    let q : envelopes_in (item (item_of l) is) ≡ envelopes_in is = ap (λ z. envelopes_in (item (item_of z) is)) e in
-    record { prints = ap (λ es. out ++ answer_lines r es) (sym q); leaves = ap (lodged_all r) (sym q) }
-
-pub through_bidder : (out : Bytes) (r : Room) (l : Line) (n b : ℕ) (t : Bor (List ℕ)) → l ≡ Bidder n b t → (is : Items)
-    → GoesThrough out r (envelopes_in (item (item_of l) is)) out r (envelopes_in is)
-unfolding envelopes_in
-through_bidder out r l n b t e is =
-    let q : envelopes_in (item (item_of l) is) ≡ envelopes_in is = ap (λ z. envelopes_in (item (item_of z) is)) e in
-    record { prints = ap (λ es. out ++ answer_lines r es) (sym q); leaves = ap (lodged_all r) (sym q) }
+through_other out r (Lot lot v t) h is = record { prints = refl; leaves = refl }
+through_other out r (Bidder n b key) h is = record { prints = refl; leaves = refl }
+through_other out r (Envelope n d) h is = absurd (h n d refl)
 
 abbrev pub sent : ℕ → List ℕ → Sent
 sent n digits = record { at = n; envelope = written_bytes digits }

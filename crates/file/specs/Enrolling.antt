@@ -1,11 +1,12 @@
 -- What enrolling a bidder leaves in the list of bidders, and what gathering a file leaves in the places lent for it.
-use Rattle.std.specs.Prelude.{ℕ, List, ◌++◌, length, take, drop, Ok, Err, Result}
+use Rattle.std.specs.Prelude.{◌≡◌, ℕ, ◌≤◌, List, ◌++◌, length, take, drop, Ok, Err, Result}
 use Rattle.list.specs.declared.faults.ListFault.{ListFault}
 use Rattle.file.specs.Contents.{Sale, gathered, enrolled_in}
 use Rattle.file.specs.Form.{Items}
 use Rattle.file.specs.declared.faults.FileFault.{FileFault}
 use Rattle.file.specs.declared.faults.FileFault.TheVariants.{List as ByList}
 use Rattle.file.specs.declared.gathering.Gathered.{Gathered}
+use Rattle.file.specs.declared.gathering.Gathering.{Gathering}
 use Rattle.room.specs.declared.register.RegisterEntry.{RegisterEntry}
 
 -- What enrolling a bidder in line n answers.
@@ -17,6 +18,11 @@ enrolling_answer n (Err f) = Err (ByList n f)
 abbrev pub register_after : Result (List RegisterEntry) ListFault → List RegisterEntry → List RegisterEntry
 register_after (Ok register) before = register
 register_after (Err f) before = before
+
+-- A register loses no bidder, and leaves what lies behind it in its places as it was.
+pub record KeepsRest (before after : Gathering) : Type 0 where
+  pub more : before.count ≤ after.count
+  pub rest : drop after.count after.places.now ≡ drop after.count before.places.now
 
 -- Places after others were written over the first of them.
 abbrev pub written_over : List RegisterEntry → List RegisterEntry → List RegisterEntry
@@ -31,11 +37,15 @@ abbrev pub sale_by : Result Gathered FileFault → List RegisterEntry → Result
 sale_by (Ok g) places = Ok (sale_of g (take g.count places))
 sale_by (Err f) places = Err f
 
--- What comes of the lines behind one that was taken in.
-abbrev pub goes_on : Result Gathered FileFault → List RegisterEntry → Items → Result Sale FileFault
-goes_on (Ok g) register is = gathered (sale_of g register) is
-goes_on (Err f) register is = Err f
+-- The sale that was gathered so far.
+abbrev pub sale_so_far : Gathering → Sale
+sale_so_far g = record { lot = g.lot; variant = g.variant; terms = g.terms.now; register = take g.count g.places.now }
 
-abbrev pub enrols_on : Result Gathered FileFault → List RegisterEntry → Items → List RegisterEntry
-enrols_on (Ok g) register is = enrolled_in register is
-enrols_on (Err f) register is = register
+-- What comes of the lines behind one that was taken in, s being the sale so far, or xs the register.
+abbrev pub goes_on : Result (Unit {0}) FileFault → Sale → Items → Result Sale FileFault
+goes_on (Ok taken) s is = gathered s is
+goes_on (Err f) s is = Err f
+
+abbrev pub enrols_on : Result (Unit {0}) FileFault → List RegisterEntry → Items → List RegisterEntry
+enrols_on (Ok taken) xs is = enrolled_in xs is
+enrols_on (Err f) xs is = xs

@@ -1,16 +1,27 @@
 -- What a reader of a sale file gives, and what is left for it to give.
-use Rattle.std.specs.Prelude.{cond, drop, Some, None, Ok, Err, Option, Result}
-use Rattle.file.specs.Lines.{lines}
+use Rattle.std.specs.Prelude.{ℕ, Some, None, Ok, Err, Option, Result}
+use Rattle.file.specs.Lines.{Lines, lines}
 use Rattle.file.specs.Form.{Item, Items, end, broken, item, items}
-use Rattle.file.specs.Said.{said_by}
+use Rattle.file.specs.Said.{item_of, said_by}
 use Rattle.file.specs.declared.faults.FileFault.{FileFault}
-use Rattle.file.specs.declared.faults.FileFault.TheVariants.{TooLong}
 use Rattle.file.specs.declared.line.Line.{Line}
+use Rattle.file.specs.declared.line.Section.{Section}
 use Rattle.file.specs.declared.reader.Reader.{Reader}
+
+-- What lines say from number n on, where the first must be of a section; or why none of them is read.
+abbrev pub items_if : Result Section FileFault → ℕ → Lines → Items
+items_if (Ok section) n ls = items section n ls
+items_if (Err f) n ls = broken f
 
 -- What is left for a reader to give: what the lines say that it has not read yet.
 unfoldable pub left_of : Reader → Items
-left_of r = cond r.long (broken TooLong) (items r.section r.line (lines (drop r.at r.text.now)))
+left_of r = items_if r.wants r.line (lines r.rest.now)
+
+-- What was left before a line that was refused, or said nothing, or said something.
+abbrev pub left_after : Result (Option Line) FileFault → Items → Items
+left_after (Err f) is = broken f
+left_after (Ok None) is = is
+left_after (Ok (Some l)) is = item (item_of l) is
 
 -- What a reader gave, borrowed parts as bytes.
 abbrev pub given : Option (Result Line FileFault) → Option (Result Item FileFault)

@@ -1,11 +1,11 @@
 -- What the program's values for lines and verdicts mean, borrowed parts as bytes.
-use Rattle.std.specs.Prelude.{◌≡◌, true, length, Ok, Err, Result, nat_le}
+use Rattle.std.specs.Prelude.{◌≡◌, true, length, Some, None, Ok, Err, Option, Result, nat_le}
 use Rattle.file.specs.Form.{is_key, is_envelope, Item, lot_item, bidder_item, envelope_item, Verdict, refused, passed, said}
 use Rattle.file.specs.declared.faults.FileFault.{FileFault}
 use Rattle.file.specs.declared.line.Line.{Line}
 use Rattle.file.specs.declared.line.Line.TheVariants.{Lot, Bidder, Envelope}
-use Rattle.file.specs.declared.line.Judgement.{Judgement}
-use Rattle.file.specs.declared.line.Judgement.TheVariants.{Refused, Passed, Said}
+use Rattle.file.specs.declared.line.Section.{Section}
+use Rattle.file.specs.declared.line.Step.{Step}
 
 abbrev pub item_of : Line → Item
 item_of (Lot lot variant terms) = lot_item lot variant terms.now
@@ -16,10 +16,13 @@ abbrev pub said_by : Result Line FileFault → Result Item FileFault
 said_by (Ok l) = Ok (item_of l)
 said_by (Err f) = Err f
 
-abbrev pub verdict_of : Judgement → Verdict
-verdict_of (Refused f) = refused f
-verdict_of (Passed next) = passed next
-verdict_of (Said l next) = said (item_of l) next
+abbrev pub admitted : Option Line → Section → Verdict
+admitted None next = passed next
+admitted (Some l) next = said (item_of l) next
+
+abbrev pub verdict_of : Result Step FileFault → Verdict
+verdict_of (Err f) = refused f
+verdict_of (Ok step) = admitted step.said step.next
 
 -- What a line that is admitted says: terms within their limit, and the digits of a key or an envelope.
 abbrev pub WellFormed : Item → Type 0

@@ -1,20 +1,26 @@
 -- How a reader moves: over the text that it has, on where a line is passed, and not at all where it is refused.
-use Rattle.std.specs.Prelude.{◌≡◌, ◌<◌, Some, None, Ok, Err, Option, Result}
+use Rattle.std.specs.Prelude.{◌≡◌, ℕ, ◌<◌, ◌≤◌, length, drop, Some, None, Ok, Err, Option, Result}
 use Rattle.file.specs.declared.faults.FileFault.{FileFault}
 use Rattle.file.specs.declared.line.Line.{Line}
-use Rattle.file.specs.Form.{Verdict, refused, passed, said}
+use Rattle.file.specs.Read.{left_of, given, first_of, rest_of}
 use Rattle.file.specs.declared.reader.Reader.{Reader}
 
+-- Some of the bytes that were left to read are passed, and the others are left.
 abbrev pub Moves : Reader → Reader → Type 0
-Moves before after = (after.text ≡ before.text) × (after.long ≡ before.long) × (before.at < after.at)
+Moves before after = (k : ℕ) × (0 < k) × (k ≤ length before.rest.now) × (after.rest.now ≡ drop k before.rest.now)
 
-abbrev pub Steps : Verdict → Reader → Reader → Type 0
-Steps (refused f) before after = after ≡ before
-Steps (passed next) before after = Moves before after
-Steps (said i next) before after = Moves before after
+abbrev pub Steps : Result (Option Line) FileFault → Reader → Reader → Type 0
+Steps (Err f) before after = after ≡ before
+Steps (Ok said) before after = Moves before after
 
 -- A reader that gave a line goes on in the same text, behind that line.
 abbrev pub GoesOn : Option (Result Line FileFault) → Reader → Reader → Type 0
 GoesOn None before after = Unit {0}
 GoesOn (Some (Err f)) before after = Unit {0}
 GoesOn (Some (Ok l)) before after = Moves before after
+
+-- What one call of a reader does: it gives the first that was left, leaves the rest, and goes on.
+pub record GivesNext (before : Reader) (r : Option (Result Line FileFault)) (after : Reader) : Type 0 where
+  pub gives : given r ≡ first_of (left_of before)
+  pub leaves : left_of after ≡ rest_of (left_of before)
+  pub goes_on : GoesOn r before after

@@ -1,12 +1,12 @@
 // The bidders of a sale file, enrolled one after the other.
-ghost use Rattle.std.specs.Prelude.{◌≡◌, ◌≤◌, true, length, drop};
-ghost use Rattle.list.specs.Insertion.{entries_of};
-ghost use Rattle.file.specs.Contents.{enrolled};
-ghost use Rattle.file.specs.Enrolling.{enrolling_answer, register_after};
+ghost use Rattle.std.specs.Prelude.{◌≡◌, true};
+ghost use Rattle.file.specs.Contents.{enrolled, with_register};
+ghost use Rattle.file.specs.Enrolling.{enrolling_answer, register_after, sale_so_far, KeepsRest};
 ghost use Rattle.file.specs.Form.{is_key};
 ghost use Rattle.file.specs.Hexadecimal.{written_bytes};
 
 use crate::faults::FileFault;
+use crate::gathering::Gathering;
 use crate::hexadecimal::decode;
 use list::Ordered;
 use room::RegisterEntry;
@@ -21,26 +21,22 @@ fn key_of(digits: &[u8]) -> [u8; 16]
     key
 }
 
-// Enrolls the bidder of a line.
-pub(crate) fn enroll(
-    list: &mut Ordered<RegisterEntry>,
-    line: u32,
-    bidder: u32,
-    key: &[u8],
-) -> Result<(), FileFault>
-    requires key_value { is_key key.now ≡ true }
-    requires places_len { length list.old.places.now ≡ 64 }
-    requires count_bound { list.old.count ≤ 64 }
-    ensures answer { result ≡ enrolling_answer line (enrolled (record { bidder = bidder; key = written_bytes key.now }) (entries_of list.old)) }
-    ensures register { entries_of list.new ≡ register_after (enrolled (record { bidder = bidder; key = written_bytes key.now }) (entries_of list.old)) (entries_of list.old) }
-    ensures long { length list.new.places.now ≡ 64 }
-    ensures few { list.new.count ≤ 64 }
-    ensures rest { (list.old.count ≤ list.new.count) × (drop list.new.count list.new.places.now ≡ drop list.new.count list.old.places.now) }
-    ensures same_places { list.new.places.ghost_name ≡ list.old.places.ghost_name }
-{
-    let key = key_of(key);
-    match list.insert(RegisterEntry { bidder, key }) {
-        Ok(_) => Ok(()),
-        Err(cause) => Err(FileFault::List { line, cause }),
+impl Gathering<'_, '_> {
+    // Enrolls the bidder of a line.
+    pub(crate) fn enroll(&mut self, line: u32, bidder: u32, key: &[u8]) -> Result<(), FileFault>
+        requires { is_key key.now ≡ true }
+        ensures answer { result ≡ enrolling_answer line (enrolled (record { bidder = bidder; key = written_bytes key.now }) (sale_so_far self.old).register) }
+        ensures register { sale_so_far self.new ≡ with_register (register_after (enrolled (record { bidder = bidder; key = written_bytes key.now }) (sale_so_far self.old).register) (sale_so_far self.old).register) (sale_so_far self.old) }
+        ensures keeps { KeepsRest self.old self.new }
+        ensures same_places { self.new.places.ghost_name ≡ self.old.places.ghost_name }
+    {
+        let key = key_of(key);
+        let count = self.count;
+        let places = &mut *self.places;
+        let mut list = Ordered { places, count };
+        let enrolled = list.insert(RegisterEntry { bidder, key });
+        self.count = list.count;
+        enrolled.map_err(|cause| FileFault::List { line, cause })?;
+        Ok(())
     }
 }

@@ -2,7 +2,7 @@
 ghost use Rattle.std.specs.Prelude.{◌≡◌};
 ghost use Rattle.file.specs.Faults.{fault_number, fault_layer, line_of, fault_place};
 
-use fault::{Layer, Place};
+use fault::{Fault, Layer, Place};
 use list::ListFault;
 
 // Each fault but the first lies in a line, counted from 1.
@@ -19,23 +19,6 @@ pub enum FileFault {
 }
 
 impl FileFault {
-    pub fn number(self) -> u8
-        ensures { result ≡ fault_number self }
-    {
-        match self {
-            FileFault::TooLong => 23,
-            FileFault::Form { line: _ } => 22,
-            FileFault::TermsLength { line: _ } => 15,
-            FileFault::List { line: _, cause } => cause.number(),
-        }
-    }
-
-    pub fn layer(self) -> Layer
-        ensures { result ≡ fault_layer self }
-    {
-        Layer::File
-    }
-
     // The line that is refused, 0 for a file that is too long.
     pub fn line(self) -> u32
         ensures { result ≡ line_of self }
@@ -47,10 +30,29 @@ impl FileFault {
             FileFault::List { line, cause: _ } => line,
         }
     }
+}
 
-    pub fn place(self) -> Place
-        ensures { result ≡ fault_place self }
-    {
+impl Fault for FileFault {
+    ghost number_is = { fault_number };
+
+    ghost layer_is = { fault_layer };
+
+    ghost place_is = { fault_place };
+
+    fn number(self) -> u8 {
+        match self {
+            FileFault::TooLong => 23,
+            FileFault::Form { line: _ } => 22,
+            FileFault::TermsLength { line: _ } => 15,
+            FileFault::List { line: _, cause } => cause.number(),
+        }
+    }
+
+    fn layer(self) -> Layer {
+        Layer::File
+    }
+
+    fn place(self) -> Place {
         Place::Line(self.line())
     }
 }

@@ -1,50 +1,19 @@
-// The fields of a line, and its comparison with a text.
-ghost use Rattle.std.specs.Prelude.{◌≡◌};
-ghost use Rattle.std.specs.Str.{bytes_eq};
-ghost use Rattle.file.specs.Fields.{place_of, holds_comma, field, behind};
+// Bytes split at a byte: a line at its comma, a file at the end of a line.
+ghost use Rattle.std.specs.Prelude.{◌≡◌, ◌==◌, position};
+ghost use Rattle.file.specs.Fields.{IsSplit};
 
-// How many bytes stand before the first `b`: all of them where there is none.
-pub(crate) fn find(bytes: &[u8], b: u8) -> usize
-    ensures { result ≡ place_of b bytes.now }
+// The place of the first `b`.
+fn find(bytes: &[u8], b: u8) -> Option<usize>
+    ensures { result ≡ position (λ c. c == b) bytes.now }
 {
-    for i in 0..bytes.len() {
-        if bytes[i] == b {
-            return i;
-        }
-    }
-    bytes.len()
+    bytes.iter().position(|c| *c == b)
 }
 
-// Whether the bytes are those of a text.
-pub(crate) fn is(bytes: &[u8], text: &[u8]) -> bool
-    ensures { result ≡ bytes_eq bytes.now text.now }
+// What stands before the first `b`, and what behind it.
+#[tactic(auto, unfolding(crate::specs::Fields::place_of))]
+pub(crate) fn split_once(bytes: &[u8], b: u8) -> Option<(&[u8], &[u8])>
+    ensures { IsSplit b bytes.now result }
 {
-    bytes == text
-}
-
-// Whether a line has a comma.
-pub(crate) fn has_comma(line: &[u8]) -> bool
-    ensures { result ≡ holds_comma line.now }
-{
-    find(line, b',') < line.len()
-}
-
-// What stands before the first comma of a line.
-pub(crate) fn first_field(line: &[u8]) -> &[u8]
-    ensures { result.now ≡ field line.now }
-{
-    let end = find(line, b',').min(line.len());
-    &line[0..end]
-}
-
-// What stands behind it.
-pub(crate) fn behind_comma(line: &[u8]) -> &[u8]
-    ensures { result.now ≡ behind line.now }
-{
-    let comma = find(line, b',');
-    if comma < line.len() {
-        &line[comma + 1..line.len()]
-    } else {
-        &[]
-    }
+    let place = find(bytes, b)?;
+    Some((&bytes[..place], &bytes[place + 1..]))
 }

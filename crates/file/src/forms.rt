@@ -4,50 +4,38 @@ ghost use Rattle.file.specs.Form.{variant_of, lot_line_item, bidder_line_item, e
 ghost use Rattle.file.specs.Said.{said_by};
 
 use crate::faults::FileFault;
-use crate::fields::{behind_comma, first_field, has_comma, is};
+use crate::fields::split_once;
 use crate::hexadecimal::are_digits;
 use crate::line::Line;
 use crate::numbers::number;
 use engine::Variant;
-
-// The most bytes that terms may have.
-const TERMS_LIMIT: usize = 64;
+use envelope::MOST_TERMS_BYTES;
 
 // The digits of a key.
 const KEY_DIGITS: usize = 32;
 
-// A variant by its name.
+// A variant by its name. No `TryFrom`, since the variant is another crate's type, and these names are the file's alone.
 fn variant_named(name: &[u8]) -> Option<Variant>
     ensures { result ≡ variant_of name.now }
 {
-    if is(name, b"dumbo") {
-        return Some(Variant::Dumbo);
+    match name {
+        b"dumbo" => Some(Variant::Dumbo),
+        b"jumbo" => Some(Variant::Jumbo),
+        b"delirium" => Some(Variant::Delirium),
+        _ => None,
     }
-    if is(name, b"jumbo") {
-        return Some(Variant::Jumbo);
-    }
-    if is(name, b"delirium") {
-        return Some(Variant::Delirium);
-    }
-    None
 }
 
-// Line n as the lot, its variant and its terms.
+// Line n as the lot, its variant and its terms. Here and below the number goes along with the text only for the fault and for the case that names it.
 pub(crate) fn lot_line(n: u32, line: &[u8]) -> Result<Line<'_>, FileFault>
     ensures { said_by result ≡ lot_line_item n line.now }
 {
-    let rest = behind_comma(line);
-    if !has_comma(line) || !has_comma(rest) {
-        return Err(FileFault::Form { line: n });
-    }
-    let Some(lot) = number(first_field(line)) else {
-        return Err(FileFault::Form { line: n });
-    };
-    let Some(variant) = variant_named(first_field(rest)) else {
-        return Err(FileFault::Form { line: n });
-    };
-    let terms = behind_comma(rest);
-    if terms.len() > TERMS_LIMIT {
+    let broken = FileFault::Form { line: n };
+    let (lot, rest) = split_once(line, b',').ok_or(broken)?;
+    let (name, terms) = split_once(rest, b',').ok_or(broken)?;
+    let lot = number(lot).ok_or(broken)?;
+    let variant = variant_named(name).ok_or(broken)?;
+    if terms.len() > MOST_TERMS_BYTES {
         return Err(FileFault::TermsLength { line: n });
     }
     Ok(Line::Lot {
@@ -61,15 +49,11 @@ pub(crate) fn lot_line(n: u32, line: &[u8]) -> Result<Line<'_>, FileFault>
 pub(crate) fn bidder_line(n: u32, line: &[u8]) -> Result<Line<'_>, FileFault>
     ensures { said_by result ≡ bidder_line_item n line.now }
 {
-    if !has_comma(line) {
-        return Err(FileFault::Form { line: n });
-    }
-    let Some(bidder) = number(first_field(line)) else {
-        return Err(FileFault::Form { line: n });
-    };
-    let key = behind_comma(line);
+    let broken = FileFault::Form { line: n };
+    let (bidder, key) = split_once(line, b',').ok_or(broken)?;
+    let bidder = number(bidder).ok_or(broken)?;
     if key.len() != KEY_DIGITS || !are_digits(key) {
-        return Err(FileFault::Form { line: n });
+        return Err(broken);
     }
     Ok(Line::Bidder {
         line: n,
@@ -82,7 +66,7 @@ pub(crate) fn bidder_line(n: u32, line: &[u8]) -> Result<Line<'_>, FileFault>
 pub(crate) fn envelope_line(n: u32, line: &[u8]) -> Result<Line<'_>, FileFault>
     ensures { said_by result ≡ envelope_line_item n line.now }
 {
-    if line.len() == 0 || line.len() % 2 != 0 || !are_digits(line) {
+    if line.is_empty() || line.len() % 2 != 0 || !are_digits(line) {
         return Err(FileFault::Form { line: n });
     }
     Ok(Line::Envelope {

@@ -4,33 +4,31 @@ ghost use Rattle.file.specs.Form.{line_must_be, line_must_say, judged};
 ghost use Rattle.file.specs.Said.{said_by, verdict_of};
 
 use crate::faults::FileFault;
-use crate::fields::is;
 use crate::forms::{bidder_line, envelope_line, lot_line};
-use crate::line::{Judgement, Line, Section};
+use crate::line::{Line, Section, Step};
 
 // A line that must have one text.
-fn must_be<'a>(text: &[u8], next: Section, n: u32, line: &'a [u8]) -> Judgement<'a>
+fn must_be<'a>(text: &[u8], next: Section, n: u32, line: &'a [u8]) -> Result<Step<'a>, FileFault>
     ensures { verdict_of result ≡ line_must_be text.now next n line.now }
 {
-    if is(line, text) {
-        Judgement::Passed(next)
-    } else {
-        Judgement::Refused(FileFault::Form { line: n })
+    if line != text {
+        return Err(FileFault::Form { line: n });
     }
+    Ok(Step { said: None, next })
 }
 
 // A line that must say something.
-fn must_say<'a>(said: Result<Line<'a>, FileFault>, next: Section) -> Judgement<'a>
+fn must_say<'a>(said: Result<Line<'a>, FileFault>, next: Section) -> Result<Step<'a>, FileFault>
     ensures { verdict_of result ≡ line_must_say (said_by said.entry) next }
 {
-    match said {
-        Ok(line) => Judgement::Said(line, next),
-        Err(f) => Judgement::Refused(f),
-    }
+    Ok(Step {
+        said: Some(said?),
+        next,
+    })
 }
 
 // Line n, where the form wants a line of the section.
-pub(crate) fn judge(section: Section, n: u32, line: &[u8]) -> Judgement<'_>
+pub(crate) fn judge(section: Section, n: u32, line: &[u8]) -> Result<Step<'_>, FileFault>
     ensures { verdict_of result ≡ judged section n line.now }
 {
     match section {
@@ -38,11 +36,11 @@ pub(crate) fn judge(section: Section, n: u32, line: &[u8]) -> Judgement<'_>
         Section::LotValues => must_say(lot_line(n, line), Section::LotEnd),
         Section::LotEnd => must_be(b"", Section::BidderNames, n, line),
         Section::BidderNames => must_be(b"bidder,key", Section::FirstBidder, n, line),
-        Section::FirstBidder => must_say(bidder_line(n, line), Section::Bidders),
-        Section::Bidders => {
-            if is(line, b"") {
-                return Judgement::Passed(Section::EnvelopeNames);
-            }
+        Section::Bidders if line.is_empty() => Ok(Step {
+            said: None,
+            next: Section::EnvelopeNames,
+        }),
+        Section::FirstBidder | Section::Bidders => {
             must_say(bidder_line(n, line), Section::Bidders)
         }
         Section::EnvelopeNames => must_be(b"envelope", Section::Envelopes, n, line),

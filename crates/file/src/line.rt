@@ -1,5 +1,4 @@
 // The lines of a sale file: what they say, and which of them comes next.
-use crate::faults::FileFault;
 use engine::Variant;
 
 // What a line says. Terms and hexadecimal digits are borrowed from the bytes read.
@@ -42,13 +41,9 @@ pub(crate) enum Section {
     Envelopes,
 }
 
-// What becomes of a line, and what the form wants behind it.
+// A line that is as it must be: what it says, if anything, and what the form wants behind it.
 #[derive(Clone, Copy)]
-pub(crate) enum Judgement<'a> {
-    // It is refused.
-    Refused(FileFault),
-    // It is as it must be, and says nothing.
-    Passed(Section),
-    // It says something.
-    Said(Line<'a>, Section),
+pub(crate) struct Step<'a> {
+    pub(crate) said: Option<Line<'a>>,
+    pub(crate) next: Section,
 }

@@ -14,6 +14,7 @@ use crate::line::Line;
 use crate::printing::put_values;
 use crate::reader::Reader;
 use engine::Plain;
+use fault::Fault;
 use room::Room;
 use std::alloc::{AllocError, Global};
 
@@ -23,13 +24,13 @@ fn decoded(heap: Global, digits: &[u8]) -> Result<Vec<u8>, AllocError>
     ensures { IfOk result (λ v. v.items ≡ written_bytes digits.now) }
 {
     let mut bytes = vec![in heap; 0; digits.len() / 2]?;
-    decode(digits, bytes.as_mut_slice());
+    decode(digits, &mut bytes);
     Ok(bytes)
 }
 
-// Lodges the envelope of a line, and adds the line with the answer.
+// Lodges the envelope of a line, and adds the line with the answer, which is 0 where it is accepted. The room and the report go side by side:
+// in a struct lent to a function, what the room's place holds would no longer be known once it is given back.
 fn lodge_line(
-    heap: Global,
     room: &mut Room<Plain>,
     line: u32,
     digits: &[u8],
@@ -41,44 +42,26 @@ fn lodge_line(
         × (room.new.engine ≡ room.old.engine)
         × (room.new.inner.ghost_name ≡ room.old.inner.ghost_name)) }
 {
-    let envelope = decoded(heap, digits)?;
-    let answer = match room.lodge(envelope.as_slice()) {
-        Ok(_) => 0,
-        Err(f) => f.number(),
-    };
-    put_values(heap, out, line, answer as u32)
+    let envelope = decoded(*out.allocator(), digits)?;
+    let refusal = room.lodge(&envelope).err();
+    put_values(out, line, refusal.map_or(0, |f| f.number() as u32))
 }
 
 // Lodges what a line says, where it is an envelope.
-fn lodge_said(
-    heap: Global,
-    room: &mut Room<Plain>,
-    said: Line,
-    out: &mut Vec<u8>,
-) -> Result<(), AllocError>
+fn lodge_said(room: &mut Room<Plain>, said: Line, out: &mut Vec<u8>) -> Result<(), AllocError>
     requires { WellFormed (item_of said) }
     ensures { OnOk result (((is : Items) → GoesThrough out.old.items (contents room.old.engine.variant room.old.inner.now) (envelopes_in (item (item_of said.entry) is)) out.new.items (contents room.old.engine.variant room.new.inner.now) (envelopes_in is))
         × (room.new.engine ≡ room.old.engine)
         × (room.new.inner.ghost_name ≡ room.old.inner.ghost_name)) }
 {
-    match said {
-        Line::Lot {
-            lot: _,
-            variant: _,
-            terms: _,
-        } => Ok(()),
-        Line::Bidder {
-            line: _,
-            bidder: _,
-            key: _,
-        } => Ok(()),
-        Line::Envelope { line, digits } => lodge_line(heap, room, line, digits, out),
+    if let Line::Envelope { line, digits } = said {
+        lodge_line(room, line, digits, out)?;
     }
+    Ok(())
 }
 
 // Lodges all envelopes of a file in their order, up to its end or to a line that is refused, and adds the line of each with its answer.
 pub(crate) fn lodge_all(
-    heap: Global,
     text: &[u8],
     room: &mut Room<Plain>,
     out: &mut Vec<u8>,
@@ -88,11 +71,9 @@ pub(crate) fn lodge_all(
         × (room.new.inner.ghost_name ≡ room.old.inner.ghost_name)) }
 {
     let mut reader = Reader::new(text);
-    while let Some(said) = reader.next() {
-        let Ok(line) = said else {
-            return Ok(());
-        };
-        lodge_said(heap, room, line, out)?;
+    // No `for`, which needs a bound on the calls: a reader that refuses a line refuses it again at each call.
+    while let Ok(Some(line)) = reader.read() {
+        lodge_said(room, line, out)?;
     }
     Ok(())
 }

@@ -3,13 +3,14 @@ ghost use Rattle.std.specs.Prelude.{◌≡◌, ◌++◌, IfOk, OnOk};
 ghost use Rattle.file.specs.Report.{two_values, refused_report};
 
 use crate::faults::FileFault;
+use fault::Fault;
 use std::alloc::{AllocError, Global};
 
 // Adds a line of two values.
-pub(crate) fn put_values(heap: Global, out: &mut Vec<u8>, a: u32, b: u32) -> Result<(), AllocError>
+pub(crate) fn put_values(out: &mut Vec<u8>, a: u32, b: u32) -> Result<(), AllocError>
     ensures { OnOk result (out.new.items ≡ out.old.items ++ two_values a b) }
 {
-    let line = format!(in heap; "{a},{b}\n")?;
+    let line = format!(in *out.allocator(); "{a},{b}\n")?;
     out.extend_from_slice(line.as_bytes())
 }
 
@@ -19,6 +20,6 @@ pub(crate) fn print_refusal(heap: Global, f: FileFault) -> Result<Vec<u8>, Alloc
 {
     let mut out = Vec::new(heap);
     out.extend_from_slice(b"refusal,line\n")?;
-    put_values(heap, &mut out, f.number() as u32, f.line())?;
+    put_values(&mut out, f.number() as u32, f.line())?;
     Ok(out)
 }

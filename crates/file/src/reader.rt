@@ -1,19 +1,16 @@
 // The reader of a sale file: it goes from line to line.
 ghost use Rattle.std.specs.Prelude.{◌+◌, ◌≤◌, length};
 
+use crate::faults::FileFault;
 use crate::line::Section;
 
-// Where a reader stands in the bytes of a file: its next line begins at `at`, has the number `line`, and must be one of the section.
-// A reader over a file that is too long holds none of its bytes.
+// Where a reader stands in a file: what it has not read yet, the number of the next line, and the section that this must be of.
+// A file that is too long is refused with none of its bytes read.
 #[derive(Clone, Copy)]
 pub struct Reader<'a> {
-    pub(crate) text: &'a [u8],
-    pub(crate) at: usize,
+    pub(crate) rest: &'a [u8],
     pub(crate) line: u32,
-    pub(crate) section: Section,
-    pub(crate) long: bool,
+    pub(crate) wants: Result<Section, FileFault>,
     // Every line passed took a byte, and the file is short enough to count them.
-    ghost within: { at ≤ length text.now },
-    ghost counted: { line ≤ at + 1 },
-    ghost short: { length text.now ≤ 32768 },
+    ghost counted: { line + length rest.now ≤ 32769 },
 }

@@ -1,16 +1,14 @@
 // Reading a sale file line by line.
-ghost use Rattle.std.specs.Prelude.{◌≡◌, ◌+◌, ◌<◌, ◌≤◌, false, length, drop};
+ghost use Rattle.std.specs.Prelude.{◌≡◌, ◌<◌, length};
+ghost use Rattle.std.specs.Result.{result_transpose};
 ghost use Rattle.file.specs.Contents.{said_in};
-ghost use Rattle.file.specs.Form.{after_verdict, items};
-ghost use Rattle.file.specs.Lines.{lines};
-ghost use Rattle.file.specs.Read.{left_of, given, first_of, rest_of};
-ghost use Rattle.file.specs.Said.{verdict_of};
-ghost use Rattle.file.specs.Stepping.{Moves, Steps, GoesOn};
+ghost use Rattle.file.specs.Read.{left_of, left_after};
+ghost use Rattle.file.specs.Stepping.{Steps, GivesNext};
 
 use crate::faults::FileFault;
-use crate::fields::find;
+use crate::fields::split_once;
 use crate::judging::judge;
-use crate::line::{Judgement, Line, Section};
+use crate::line::{Line, Section};
 use crate::reader::Reader;
 
 // The most bytes that a file may have.
@@ -21,83 +19,67 @@ const LINE_END: u8 = 10;
 
 impl<'a> Reader<'a> {
     // A reader over the bytes of a file.
+    #[tactic(auto, unfolding(crate::specs::Read::left_of))]
     pub fn new(text: &'a [u8]) -> Reader<'a>
         ensures { left_of result ≡ said_in text.now }
     {
         if text.len() > FILE_LIMIT {
             return Reader {
-                text: &[],
-                at: 0,
+                rest: &[],
                 line: 1,
-                section: Section::LotNames,
-                long: true,
+                wants: Err(FileFault::TooLong),
             };
         }
         Reader {
-            text,
-            at: 0,
+            rest: text,
             line: 1,
-            section: Section::LotNames,
-            long: false,
+            wants: Ok(Section::LotNames),
         }
     }
 
-    // Passes a line: the next one begins at `to`, and must be one of the section.
-    fn pass(&mut self, to: usize, section: Section)
-        requires { (self.old.long ≡ false) × ((self.old.at < to) × (to ≤ length self.old.text.now)) }
-        ensures left { left_of self.new ≡ items section (self.old.line + 1) (lines (drop to self.old.text.now)) }
-        ensures moves { Moves self.old self.new }
+    // What the next line says, if anything. It is passed unless it is refused.
+    #[tactic(auto, using(crate::proofs::Cuts::items_torn, crate::proofs::Cuts::items_line), unfolding(crate::specs::Read::left_of))]
+    fn step(&mut self) -> Result<Option<Line<'a>>, FileFault>
+        requires { 0 < length self.old.rest.now }
+        ensures left { left_of self.old ≡ left_after result (left_of self.new) }
+        ensures moves { Steps result self.old self.new }
     {
-        self.at = to;
-        self.line += 1;
-        self.section = section;
-    }
-
-    // Judges the next line, and passes it where it is not refused.
-    fn step(&mut self) -> Judgement<'a>
-        requires { (self.old.long ≡ false) × (self.old.at < length self.old.text.now) }
-        ensures left { left_of self.old ≡ after_verdict (verdict_of result) (λ _. left_of self.new) }
-        ensures moves { Steps (verdict_of result) self.old self.new }
-    {
-        let at = self.at;
+        let section = self.wants?;
         let line = self.line;
-        let rest = &self.text[at..self.text.len()];
-        let end = find(rest, LINE_END);
-        if end >= rest.len() {
-            return Judgement::Refused(FileFault::Form { line });
-        }
-        match judge(self.section, line, &rest[0..end]) {
-            Judgement::Refused(f) => Judgement::Refused(f),
-            Judgement::Passed(next) => {
-                self.pass(at + end + 1, next);
-                Judgement::Passed(next)
-            }
-            Judgement::Said(said, next) => {
-                self.pass(at + end + 1, next);
-                Judgement::Said(said, next)
-            }
-        }
+        let (text, rest) = split_once(self.rest, LINE_END).ok_or(FileFault::Form { line })?;
+        let step = judge(section, line, text)?;
+        *self = Reader {
+            rest,
+            line: line + 1,
+            wants: Ok(step.next),
+        };
+        Ok(step.said)
     }
 
-    // What the next line that says something says, or why a line before it is refused; none at the end of the file.
-    pub fn next(&mut self) -> Option<Result<Line<'a>, FileFault>>
-        ensures gives { given result ≡ first_of (left_of self.old) }
-        ensures leaves { left_of self.new ≡ rest_of (left_of self.old) }
-        ensures goes_on { GoesOn result self.old self.new }
+    // What the next line that says something says; nothing at the end of the file.
+    #[tactic(auto, using(crate::proofs::Cuts::gives_line, crate::proofs::Cuts::gives_fault, crate::proofs::Cuts::gives_end, crate::proofs::Cuts::left_refused, crate::proofs::Cuts::left_ended, crate::proofs::Cuts::left_missing))]
+    pub(crate) fn read(&mut self) -> Result<Option<Line<'a>>, FileFault>
+        ensures { GivesNext self.old (result_transpose result) self.new }
     {
-        if self.long {
-            return Some(Err(FileFault::TooLong));
-        }
-        while self.at < self.text.len() {
-            match self.step() {
-                Judgement::Refused(f) => return Some(Err(f)),
-                Judgement::Passed(_) => {}
-                Judgement::Said(line, _) => return Some(Ok(line)),
+        while !self.rest.is_empty() {
+            if let Some(line) = self.step()? {
+                return Ok(Some(line));
             }
         }
-        match self.section {
-            Section::Envelopes => None,
-            _ => Some(Err(FileFault::Form { line: self.line })),
+        match self.wants? {
+            Section::Envelopes => Ok(None),
+            _ => Err(FileFault::Form { line: self.line }),
         }
+    }
+}
+
+// It gives what the next line that says something says, or why a line before it is refused, which stays so; nothing more at the end of the file.
+impl<'a> Iterator for Reader<'a> {
+    type Item = Result<Line<'a>, FileFault>;
+
+    ghost next_gives = { GivesNext };
+
+    fn next(&mut self) -> Option<Result<Line<'a>, FileFault>> {
+        self.read().transpose()
     }
 }

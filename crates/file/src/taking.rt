@@ -1,85 +1,64 @@
 // A sale file taken in: every line in its turn.
-ghost use Rattle.std.specs.Prelude.{◌≡◌, ◌≤◌, [], length, drop};
-ghost use Rattle.list.specs.Insertion.{entries_of};
+ghost use Rattle.std.specs.Prelude.{◌≡◌, []};
 ghost use Rattle.file.specs.Contents.{gathered, enrolled_in, said_in, sale_in};
-ghost use Rattle.file.specs.Enrolling.{sale_of, sale_by, goes_on, enrols_on, written_over};
+ghost use Rattle.file.specs.Enrolling.{KeepsRest, sale_so_far, sale_by, goes_on, enrols_on, written_over};
 ghost use Rattle.file.specs.Form.{Items, item};
 ghost use Rattle.file.specs.Said.{item_of, WellFormed};
 
-use crate::enrolling::enroll;
 use crate::faults::FileFault;
-use crate::gathering::Gathered;
+use crate::gathering::{Gathered, Gathering};
 use crate::line::Line;
 use crate::reader::Reader;
 use engine::Variant;
-use list::Ordered;
-use room::RegisterEntry;
+use room::{MOST_BIDDERS, RegisterEntry};
 
 // The places of a register.
-pub const REGISTER_PLACES: usize = 64;
+pub const REGISTER_PLACES: usize = MOST_BIDDERS;
 
-// Takes in a line: the lot sets what was gathered, a bidder is enrolled, and an envelope changes nothing.
-fn take_in<'a>(
-    line: Line<'a>,
-    sale: Gathered<'a>,
-    list: &mut Ordered<RegisterEntry>,
-) -> Result<Gathered<'a>, FileFault>
-    requires well_formed { WellFormed (item_of line) }
-    requires places_len { length list.old.places.now ≡ 64 }
-    requires count_bound { list.old.count ≤ 64 }
-    ensures gathers { (is : Items) → gathered (sale_of sale.entry (entries_of list.old)) (item (item_of line.entry) is) ≡ goes_on result (entries_of list.new) is }
-    ensures enrols { (is : Items) → enrolled_in (entries_of list.old) (item (item_of line.entry) is) ≡ enrols_on result (entries_of list.new) is }
-    ensures long { length list.new.places.now ≡ 64 }
-    ensures few { list.new.count ≤ 64 }
-    ensures rest { (list.old.count ≤ list.new.count) × (drop list.new.count list.new.places.now ≡ drop list.new.count list.old.places.now) }
-    ensures same_places { list.new.places.ghost_name ≡ list.old.places.ghost_name }
-{
-    match line {
-        Line::Lot {
-            lot,
-            variant,
-            terms,
-        } => Ok(Gathered {
-            lot,
-            variant,
-            terms,
-            count: 0,
-        }),
-        Line::Bidder { line, bidder, key } => {
-            enroll(list, line, bidder, key)?;
-            Ok(sale)
+impl<'a> Gathering<'a, '_> {
+    // Takes in a line: the lot sets what was gathered, a bidder is enrolled, and an envelope changes nothing.
+    fn take_in(&mut self, line: Line<'a>) -> Result<(), FileFault>
+        requires { WellFormed (item_of line) }
+        ensures gathers { (is : Items) → gathered (sale_so_far self.old) (item (item_of line.entry) is) ≡ goes_on result (sale_so_far self.new) is }
+        ensures enrols { (is : Items) → enrolled_in (sale_so_far self.old).register (item (item_of line.entry) is) ≡ enrols_on result (sale_so_far self.new).register is }
+        ensures keeps { KeepsRest self.old self.new }
+        ensures same_places { self.new.places.ghost_name ≡ self.old.places.ghost_name }
+    {
+        match line {
+            Line::Lot {
+                lot,
+                variant,
+                terms,
+            } => {
+                self.lot = lot;
+                self.variant = variant;
+                self.terms = terms;
+                Ok(())
+            }
+            Line::Bidder { line, bidder, key } => self.enroll(line, bidder, key),
+            Line::Envelope { line: _, digits: _ } => Ok(()),
         }
-        Line::Envelope { line: _, digits: _ } => Ok(sale),
     }
-}
 
-// Takes in all lines of a file, the bidders into an empty list over 64 places.
-fn take_all<'a>(
-    text: &'a [u8],
-    list: &mut Ordered<RegisterEntry>,
-) -> Result<Gathered<'a>, FileFault>
-    requires places_len { length list.old.places.now ≡ 64 }
-    requires count_value { list.old.count ≡ 0 }
-    ensures sale { sale_by result list.new.places.now ≡ sale_in text.now }
-    ensures places { list.new.places.now ≡ written_over (enrolled_in [] (said_in text.now)) list.old.places.now }
-    ensures same_places { list.new.places.ghost_name ≡ list.old.places.ghost_name }
-{
-    let mut reader = Reader::new(text);
-    let mut sale = Gathered {
-        lot: 0,
-        variant: Variant::Dumbo,
-        terms: &[],
-        count: 0,
-    };
-    while let Some(said) = reader.next() {
-        sale = take_in(said?, sale, list)?;
+    // Takes in all lines of a file, up to the first that is refused.
+    fn take_all(&mut self, text: &'a [u8]) -> Result<Gathered<'a>, FileFault>
+        ensures sale { sale_by result self.new.places.now ≡ gathered (sale_so_far self.old) (said_in text.now) }
+        ensures register { (sale_so_far self.new).register ≡ enrolled_in (sale_so_far self.old).register (said_in text.now) }
+        ensures keeps { KeepsRest self.old self.new }
+        ensures same_places { self.new.places.ghost_name ≡ self.old.places.ghost_name }
+    {
+        let mut reader = Reader::new(text);
+        // No `for`, which needs a bound on the calls: a reader that refuses a line refuses it again at each call.
+        while let Some(line) = reader.read()? {
+            self.take_in(line)?;
+        }
+        Ok(Gathered {
+            lot: self.lot,
+            variant: self.variant,
+            terms: self.terms,
+            count: self.count,
+        })
     }
-    Ok(Gathered {
-        lot: sale.lot,
-        variant: sale.variant,
-        terms: sale.terms,
-        count: list.count,
-    })
 }
 
 // Gathers what a file says: the register comes into the first of the places.
@@ -90,6 +69,12 @@ pub fn gather<'a>(
     ensures sale { sale_by result places.new ≡ sale_in text.now }
     ensures places { places.new ≡ written_over (enrolled_in [] (said_in text.now)) places.old }
 {
-    let mut list = Ordered { places, count: 0 };
-    take_all(text, &mut list)
+    let mut sale = Gathering {
+        lot: 0,
+        variant: Variant::Dumbo,
+        terms: &[],
+        places,
+        count: 0,
+    };
+    sale.take_all(text)
 }

@@ -1,6 +1,6 @@
 // Small files, each with what comes of it.
 use engine::Variant;
-use fault::{Layer, Place};
+use fault::{Fault, Layer, Place};
 use file::{FileFault, Line, Reader, gather};
 use room::RegisterEntry;
 use std::process::Abort;
@@ -11,48 +11,41 @@ const NOBODY: RegisterEntry = RegisterEntry {
     key: [0; 16],
 };
 
-// The number of the fault that refuses a file, 0 where none does, and its line.
-fn verdict(file: &[u8]) -> (u8, u32) {
+// The number of the fault that refuses a file and its line, if one does.
+fn refusal(file: &[u8]) -> Option<(u8, u32)> {
     let mut places = [NOBODY; 64];
-    match gather(file, &mut places) {
-        Ok(_) => (0, 0),
-        Err(f) => {
-            let line = match f.place() {
-                Place::Line(n) => n,
-                _ => 0,
-            };
-            (f.number(), line)
-        }
+    gather(file, &mut places)
+        .err()
+        .map(|f| (f.number(), f.line()))
+}
+
+// Checks that each file is accepted.
+fn accepts(rt: &impl Abort, files: &[&str]) {
+    for file in files {
+        assert_eq!(rt; refusal(file.as_bytes()), None, "{}", *file);
     }
 }
 
 // Checks each file of a table against the number and the line that refuse it.
 fn refuses(rt: &impl Abort, table: &[(&str, u8, u32)]) {
     for (file, number, line) in table {
-        assert_eq!(rt; verdict(file.as_bytes()), (*number, *line), "{}", *file);
+        assert_eq!(rt;
+            refusal(file.as_bytes()),
+            Some((*number, *line)),
+            "{}",
+            *file
+        );
     }
 }
 
 #[test]
 fn a_file_is_accepted(rt: HostRuntime) {
-    refuses(
+    accepts(
         &rt,
         &[
-            (
-                "lot,variant,terms\n17,dumbo,bows\n\nbidder,key\n3,000102030405060708090a0b0c0d0e0f\n8,101112131415161718191a1b1c1d1e1f\n\nenvelope\n00\n",
-                0,
-                0,
-            ),
-            (
-                "lot,variant,terms\n0,jumbo,\n\nbidder,key\n0,000102030405060708090a0b0c0d0e0f\n\nenvelope\n",
-                0,
-                0,
-            ),
-            (
-                "lot,variant,terms\n4294967295,delirium,a,b,,c\r\n\nbidder,key\n4294967295,ffffffffffffffffffffffffffffffff\n1,000102030405060708090a0b0c0d0e0f\n\nenvelope\n00\nabcdef0123456789\n",
-                0,
-                0,
-            ),
+            "lot,variant,terms\n17,dumbo,bows\n\nbidder,key\n3,000102030405060708090a0b0c0d0e0f\n8,101112131415161718191a1b1c1d1e1f\n\nenvelope\n00\n",
+            "lot,variant,terms\n0,jumbo,\n\nbidder,key\n0,000102030405060708090a0b0c0d0e0f\n\nenvelope\n",
+            "lot,variant,terms\n4294967295,delirium,a,b,,c\r\n\nbidder,key\n4294967295,ffffffffffffffffffffffffffffffff\n1,000102030405060708090a0b0c0d0e0f\n\nenvelope\n00\nabcdef0123456789\n",
         ],
     );
 }
@@ -232,18 +225,18 @@ fn file_of(rt: HostRuntime, terms: usize, bidders: u32, envelopes: usize) -> Res
 #[test]
 fn terms_have_at_most_64_bytes(rt: HostRuntime) -> Result<(), Fail> {
     let fits = file_of(rt.clone()?, 64, 1, 0)?;
-    assert_eq!(rt; verdict(fits.as_slice()), (0, 0));
+    assert_eq!(rt; refusal(fits.as_slice()), None);
     let long = file_of(rt, 65, 1, 0)?;
-    assert_eq!(rt; verdict(long.as_slice()), (15, 2));
+    assert_eq!(rt; refusal(long.as_slice()), Some((15, 2)));
     Ok(())
 }
 
 #[test]
 fn at_most_64_bidders(rt: HostRuntime) -> Result<(), Fail> {
     let fits = file_of(rt.clone()?, 0, 64, 0)?;
-    assert_eq!(rt; verdict(fits.as_slice()), (0, 0));
+    assert_eq!(rt; refusal(fits.as_slice()), None);
     let many = file_of(rt, 0, 65, 0)?;
-    assert_eq!(rt; verdict(many.as_slice()), (18, 69));
+    assert_eq!(rt; refusal(many.as_slice()), Some((18, 69)));
     Ok(())
 }
 
@@ -251,10 +244,10 @@ fn at_most_64_bidders(rt: HostRuntime) -> Result<(), Fail> {
 fn a_file_has_at_most_32768_bytes(rt: HostRuntime) -> Result<(), Fail> {
     let fits = file_of(rt.clone()?, 20, 1, 10888)?;
     assert_eq!(rt; fits.len(), 32768);
-    assert_eq!(rt; verdict(fits.as_slice()), (0, 0));
+    assert_eq!(rt; refusal(fits.as_slice()), None);
     let long = file_of(rt, 21, 1, 10888)?;
     assert_eq!(rt; long.len(), 32769);
-    assert_eq!(rt; verdict(long.as_slice()), (23, 0));
+    assert_eq!(rt; refusal(long.as_slice()), Some((23, 0)));
     Ok(())
 }
 

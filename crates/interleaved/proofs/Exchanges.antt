@@ -1,12 +1,12 @@
--- The bits of a word after an exchange of those under a mask with those some places above.
-use Rattle.std.proofs.Common.{◌≡◌, ℕ, ◌+◌, ◌-◌, ◌*◌, ◌/◌, ◌%◌, ◌^◌, ◌<◌, Bool, true, false, cond, not, ◌&&◌, ◌||◌, ltb, sym, refl, ap, ◌∙◌, ap₂, ⊎_elim, arith}
+-- The bits of a word after an exchange of those under a mask with those some places above, and after several exchanges.
+use Rattle.std.proofs.Common.{◌≡◌, ℕ, ◌+◌, ◌-◌, ◌*◌, ◌/◌, ◌%◌, ◌^◌, ◌<◌, Bool, true, false, cond, not, ◌&&◌, ◌||◌, eqb, ltb, sym, refl, ap, ◌∙◌, ap₂, ⊎_elim, arith}
 use lib.Bits.{bit_and, bit_xor}
-use Rattle.std.proofs.lemmas.Bool.{cases_lt, lt-ltb, false≢true}
+use Rattle.std.proofs.Math.Bool.{and-false}
+use Rattle.std.proofs.lemmas.Bool.{cases_lt, lt-ltb, le-ltb, ltb-true, eqb-true, false≢true, agree_below, agree_below_at}
 use Rattle.engine.specs.Bits.{bit, differs}
 use Rattle.engine.proofs.BitLaws.{bit_of_and, bit_of_xor}
-use Rattle.engine.proofs.Rotations.{bit_shr}
-use Rattle.interleaved.specs.Moves.{exchanged, apart}
-use Rattle.interleaved.proofs.Sources.{bit_up}
+use Rattle.engine.proofs.Rotations.{bit_shr, bit_shl, bit_shl_low, bit_mod}
+use Rattle.interleaved.specs.Moves.{exchanged, apart, Moved}
 
 -- a bit x added to what the exchange with a takes from it
 toggled : (m x a : Bool) → differs x (differs x a && m) ≡ cond m a x
@@ -29,15 +29,11 @@ pub keeps : (b : Bool) → differs b false ≡ b
 keeps true = refl
 keeps false = refl
 
-and_false : (b : Bool) → (b && false) ≡ false
-and_false true = refl
-and_false false = refl
-
 -- x at the place, a at the place above, z at the place below
 settled : (m n l x a z : Bool) → (not m || (l || not n)) ≡ true → differs (cond m a x) (cond l false (differs x z && n)) ≡ cond m a (cond l x (cond n z x))
 settled true n true x a z e = keeps a
 settled true true false x a z e = absurd (false≢true e)
-settled true false false x a z e = ap (differs a) (and_false (differs x z)) ∙ keeps a
+settled true false false x a z e = ap (differs a) (and-false (differs x z)) ∙ keeps a
 settled false n true x a z e = keeps x
 settled false n false x a z e = toggled n x z
 
@@ -53,6 +49,16 @@ taken x k m = bit_and (bit_xor x (x / 2 ^ k)) m
 bit_taken : (x k m p : ℕ) → bit (taken x k m) p ≡ (differs (bit x p) (bit x (k + p)) && bit m p)
 bit_taken x k m p =
     bit_of_and (bit_xor x (x / 2 ^ k)) m p ∙ ap (λ b. b && bit m p) (bit_of_xor x (x / 2 ^ k) p ∙ ap (differs (bit x p)) (bit_shr x k p))
+
+-- a word moved up by k, at a width of w
+bit_up : (w x k p : ℕ) → p < w → bit ((x * 2 ^ k) % 2 ^ w) p ≡ cond (ltb p k) false (bit x (p - k))
+bit_up w x k p h =
+    ⊎_elim
+    (λ l. bit_mod (x * 2 ^ k) w p h ∙ bit_shl_low x k p l ∙ ap (λ b. cond b false (bit x (p - k))) (sym (lt-ltb p k l)))
+    (λ l.
+    let back : p ≡ k + (p - k) = omega arith in
+    bit_mod (x * 2 ^ k) w p h ∙ ap (bit (x * 2 ^ k)) back ∙ bit_shl x k (p - k) ∙ ap (λ b. cond b false (bit x (p - k))) (sym (le-ltb p k l)))
+    (cases_lt p k)
 
 pub bit_exchange : (w x k m p : ℕ) → p < w → apart k m p ≡ true
     → bit (bit_xor (bit_xor x (taken x k m)) ((taken x k m * 2 ^ k) % 2 ^ w)) p ≡ bit x (exchanged k m p)
@@ -70,3 +76,28 @@ bit_exchange w x k m p h e =
     ∙ ap₂ differs (bit_of_xor x t p ∙ ap (differs (bit x p)) (bit_taken x k m p) ∙ toggled (bit m p) (bit x p) (bit x (k + p))) (bit_up w t k p h ∙ below)
     ∙ settled (bit m p) (bit m (p - k)) (ltb p k) (bit x p) (bit x (k + p)) z e
     ∙ push (bit m p) (ltb p k) (bit m (p - k)) (bit x) (k + p) p (p - k)
+
+-- Place p of y has the bit of x at s p.
+pub record From (x : ℕ) (s : ℕ → ℕ) (y : ℕ) : Type 0 where
+  pub at : (p : ℕ) → p < 32 → bit y p ≡ bit x (s p)
+
+pub unmoved : (x : ℕ) → From x (λ p. p) x
+unmoved x = record { at = λ p h. refl }
+
+-- A test holds at each place of a word, by computing.
+abbrev pub EachPlace : (ℕ → Bool) → Type 0
+EachPlace f = agree_below f (λ _. true) 32 ≡ true
+
+-- One exchange more, by which no bit leaves the word.
+pub exchange_from : {x : ℕ} {s : ℕ → ℕ} {y : ℕ} (k m z : ℕ) → From x s y → ((p : ℕ) → p < 32 → apart k m p ≡ true → bit z p ≡ bit y (exchanged k m p))
+    → EachPlace (apart k m) → EachPlace (λ p. ltb (exchanged k m p) 32) → From x (λ p. s (exchanged k m p)) z
+exchange_from k m z from e clear inside =
+    record {
+      at = λ p h.
+          let stays = ltb-true (exchanged k m p) 32 (agree_below_at (λ p. ltb (exchanged k m p) 32) (λ _. true) 32 p inside h) in
+          e p h (agree_below_at (apart k m) (λ _. true) 32 p clear h) ∙ from.at (exchanged k m p) stays;
+    }
+
+-- The places that all exchanges together take the bits from.
+pub places : {x : ℕ} {s : ℕ → ℕ} {y : ℕ} (t : ℕ → ℕ) → From x s y → EachPlace (λ p. eqb (s p) (t p)) → Moved t x y
+places {x} {s} t from same p h = from.at p h ∙ ap (bit x) (eqb-true (s p) (t p) (agree_below_at (λ p. eqb (s p) (t p)) (λ _. true) 32 p same h))

@@ -1,14 +1,16 @@
 -- Interleaved blocks end as the permutation of each.
-use Rattle.std.proofs.Common.{◌≡◌, ℕ, zero, suc, ◌+◌, ◌*◌, ◌/◌, ◌%◌, ◌<◌, ◌≤◌, Bool, false, ◌&&◌, List, length, get_or, take, drop, sym, ap, ◌∙◌, ap₂, ⊎_elim, zero-add, arith, lit<, lit≤}
+use Rattle.std.proofs.Common.{◌≡◌, ℕ, zero, suc, ◌+◌, ◌*◌, ◌/◌, ◌%◌, ◌<◌, ◌≤◌, Bool, false, ◌&&◌, List, length, get_or, take, drop, sym, refl, ap, ◌∙◌, ap₂, ⊎_elim, zero-add, arith, lit<}
 use lib.Bits.{bit_xor}
 use Rattle.std.proofs.lemmas.List.FromFn.{get_or-map-range_with_len, length-map-range_with_len}
 use Rattle.std.proofs.lemmas.List.{append-nil, get_or-set_same, get_or-set_other, get_or-take, get_or-drop, length-take, length-drop, take_all}
 use Rattle.std.proofs.lemmas.Bool.{cases_eq, eq-eqb, ne_eqb}
 use Rattle.engine.specs.Bits.{bit, differs, made, bits, bit_of, byte_of, block}
 use Rattle.engine.specs.Keccak.{a, at, iota_at, theta, rho, pi, chi, iota, constants, round, after, keccak}
+use Rattle.engine.specs.Calls.{replaced}
 use Rattle.engine.specs.Permutation.{permutation, each}
 use Rattle.engine.specs.declared.variants.Variant.TheVariants.{Delirium}
 use Rattle.engine.proofs.BitLaws.{bit_word}
+use Rattle.engine.proofs.Granted.{replaced_granted}
 use Rattle.engine.proofs.Numbers.{word_lt, word_ext}
 use Rattle.engine.proofs.Filling.{made_ext}
 use Rattle.engine.proofs.WordBits.{Has, xor_has}
@@ -112,7 +114,11 @@ unfolding stored
 blocks_are k xs few all =
     sym (each_made (permutation Delirium) 25 k xs (stored_at (w_after 18 (loaded xs))) (λ i hi. block_is i xs (omega arith) (omega arith)))
 
-pub block_alone : (xs : List ℕ) → length xs ≡ 25 → stored 25 (w_after 18 (loaded xs)) ≡ permutation Delirium xs
+-- one block
+pub one_block : (f : List ℕ → List ℕ) (n : ℕ) (xs : List ℕ) → replaced n (each f n 1) xs ≡ replaced n f xs
 unfolding each
-block_alone xs all =
-    blocks_are 1 xs (lit≤ tt) all ∙ append-nil (permutation Delirium (take 25 xs)) ∙ ap (permutation Delirium) (take_all 25 xs (omega arith))
+one_block f n xs =
+    ⊎_elim
+    (λ h. replaced_granted n (each f n 1) xs h ∙ append-nil (f (take n xs)) ∙ ap f (take_all n xs (omega arith)) ∙ sym (replaced_granted n f xs h))
+    (λ n. rw (ne_eqb (length xs) _ n) refl)
+    (cases_eq (length xs) n)

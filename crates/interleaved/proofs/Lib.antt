@@ -1,7 +1,6 @@
 pub mod Lanes
 pub mod Made
 pub mod Interleaving
-pub mod Sources
 pub mod Exchanges
 pub mod Weaving
 pub mod Columns

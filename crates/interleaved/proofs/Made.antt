@@ -1,23 +1,24 @@
 -- Lists made from a function of the index, in parts.
-use Rattle.std.proofs.Common.{◌≡◌, ℕ, zero, suc, ◌+◌, ◌*◌, ◌<◌, List, ◌∷◌, ◌++◌, map, take, drop, sym, refl, ap, ◌∙◌, ap₂, suc-le-suc, add-zero, zero-lt-suc, suc-mul, add_comm, suc-add, mul-zero, zero-add, zero-mul, mul-suc, arith}
-use Rattle.std.specs.List.{range_with_len}
-use Rattle.std.proofs.lemmas.List.{map-append, drop-drop}
+use Rattle.std.proofs.Common.{◌≡◌, ℕ, zero, suc, ◌+◌, ◌-◌, ◌*◌, ◌<◌, List, ◌++◌, take, drop, sym, ap, ◌∙◌, ap₂, ⊎_elim, length-append, mul_comm, suc-mul, zero-add, zero-mul, arith}
+use Rattle.std.proofs.lemmas.Bool.{cases_lt}
+use Rattle.std.proofs.lemmas.List.{get_or_append_left, get_or-append_right}
+use Rattle.std.proofs.lemmas.List.FromFn.{fill_by_all, get_or-map-range_with_len, length-map-range_with_len}
 use Rattle.engine.specs.Bits.{made}
 use Rattle.engine.specs.Permutation.{each}
-use Rattle.engine.proofs.Filling.{made_ext}
+use Rattle.engine.proofs.Blocks.{each_more}
 
-counting_append : (a n m : ℕ) → range_with_len a (n + m) ≡ range_with_len a n ++ range_with_len (a + n) m
-counting_append a zero m = ap₂ range_with_len (sym (add-zero a)) (zero-add m)
-counting_append a (suc n) m = rw suc-add (ap (λ t. a ∷ t) (counting_append (a + 1) n m ∙ ap (λ t. range_with_len (a + 1) n ++ range_with_len t m) (omega arith)))
-
-counting_shift : {X : Type 0} (f : ℕ → X) (a b m : ℕ) → map f (range_with_len (a + b) m) ≡ map (λ p. f (a + p)) (range_with_len b m)
-counting_shift f a b zero = refl
-counting_shift f a b (suc m) = ap (λ t. f (a + b) ∷ t) (ap (λ t. map f (range_with_len t m)) (omega arith) ∙ counting_shift f a (b + 1) m)
-
-pub made_append : {X : Type 0} (f : ℕ → X) (n m : ℕ) → made (n + m) f ≡ made n f ++ made m (λ p. f (n + p))
+made_append : (f : ℕ → ℕ) (n m : ℕ) → made n f ++ made m (λ p. f (n + p)) ≡ made (n + m) f
 made_append f n m =
-    ap (map f) (counting_append 0 n m ∙ ap (λ t. range_with_len 0 n ++ range_with_len t m) (zero-add n ∙ sym (add-zero n))) ∙ map-append f (range_with_len 0 n) (range_with_len (n + 0) m)
-    ∙ ap (λ t. map f (range_with_len 0 n) ++ t) (counting_shift f n 0 m)
+    let g : ℕ → ℕ = λ p. f (n + p) in
+    let ln = length-map-range_with_len f 0 n in
+    let lm = length-map-range_with_len g 0 m in
+    fill_by_all f (made n f ++ made m g) (n + m) 0 (omega (length-append (made n f) (made m g), ln, lm, arith)) (λ k h.
+    ⊎_elim
+    (λ l. get_or_append_left (made n f) (made m g) 0 k (omega (l, ln, arith)) ∙ get_or-map-range_with_len f 0 n k k 0 l (zero-add k))
+    (λ l.
+    let place : n + (k - n) ≡ k = omega arith in
+    get_or-append_right (made n f) (made m g) n k 0 ln l ∙ get_or-map-range_with_len g 0 m (k - n) (k - n) 0 (omega arith) (zero-add (k - n)) ∙ ap f place)
+    (cases_lt k n))
 
 -- blocks that are each made by the index
 pub each_made : (f : List ℕ → List ℕ) (n k : ℕ) (xs : List ℕ) (g : ℕ → ℕ)
@@ -25,12 +26,7 @@ pub each_made : (f : List ℕ → List ℕ) (n k : ℕ) (xs : List ℕ) (g : ℕ
 unfolding each
 each_made f n zero xs g h = ap (λ m. made m g) (sym (zero-mul n))
 each_made f n (suc k) xs g h =
-    let none = mul-zero n in
-    let first : f (take n xs) ≡ made n g =
-    ap (λ m. f (take n (drop m xs))) (sym none) ∙ h 0 (zero-lt-suc k) ∙ made_ext 0 (λ l. g (n * 0 + l)) g n (λ l _. ap g (omega arith)) in
-    let rest : each f n k (drop n xs) ≡ made (k * n) (λ p. g (n + p)) =
-    each_made f n k (drop n xs) (λ p. g (n + p)) (λ i l.
-    let next : n * suc i ≡ n + n * i = mul-suc n i ∙ add_comm (n * i) n in
-    ap (λ t. f (take n t)) (drop-drop (n * i) n xs ∙ ap (λ m. drop m xs) (sym next)) ∙ h (suc i) (suc-le-suc l)
-    ∙ made_ext 0 (λ l. g (n * suc i + l)) (λ l. g (n + (n * i + l))) n (λ l _. ap g (omega arith))) in
-    ap₂ (λ s t. s ++ t) first rest ∙ sym (made_append g n (k * n)) ∙ ap (λ m. made m g) (add_comm n (k * n) ∙ sym (suc-mul k n))
+    let turned = mul_comm k n in
+    let last : f (take n (drop (k * n) xs)) ≡ made n (λ l. g (k * n + l)) =
+    ap (λ m. f (take n (drop m xs))) turned ∙ h k (omega arith) ∙ ap (λ m. made n (λ l. g (m + l))) (sym turned) in
+    each_more f n k xs ∙ ap₂ (λ s t. s ++ t) (each_made f n k xs g (λ i l. h i (omega arith))) last ∙ made_append g (k * n) n ∙ ap (λ m. made m g) (sym (suc-mul k n))

@@ -1,15 +1,17 @@
 -- What the bytes of a word become when it is woven, and when it is unwoven.
-use Rattle.std.proofs.Common.{◌≡◌, ℕ, zero, suc, ◌+◌, ◌*◌, ◌/◌, ◌%◌, ◌^◌, ◌<◌, eqb, List, length, get_or, sym, refl, ap, ◌∙◌, ap₂, ⊎_elim, zero-le, mod-eq_of_lt, add-one, arith, lit<}
-use Rattle.std.proofs.lemmas.List.{get_or_past}
+use Rattle.std.proofs.Common.{◌≡◌, ℕ, zero, suc, ◌+◌, ◌-◌, ◌*◌, ◌/◌, ◌%◌, ◌^◌, ◌<◌, Bool, eqb, sym, refl, ap, ◌∙◌, ap₂, ⊎_elim, mod-eq_of_lt, add-one, arith}
 use Rattle.std.proofs.lemmas.Bool.{cases_lt}
 use Rattle.std.proofs.lemmas.Nat.{mod-pow-add}
 use Rattle.engine.specs.Bits.{bit, one, word}
 use Rattle.engine.proofs.BitLaws.{bit_suc}
 use Rattle.engine.proofs.Numbers.{word_ext}
-use Rattle.engine.proofs.Rotations.{bit_shr, bit_past}
+use Rattle.engine.proofs.Rotations.{bit_shr, bit_mod}
 use Rattle.interleaved.specs.Moves.{Moved, woven_from, unwoven_from}
 use Rattle.interleaved.specs.Words.{woven, lifted}
-use Rattle.interleaved.proofs.Sources.{of_bytes}
+
+-- bits of a list of bytes
+abbrev pub of_bytes : (ℕ → ℕ) → ℕ → Bool
+of_bytes g j = bit (g (j / 8)) (j % 8)
 
 -- the lowest bit as a number
 one_low : (x : ℕ) → one (bit x 0) ≡ x % 2
@@ -50,16 +52,27 @@ lifted_is x r i hi move =
     let from : 4 * (p % 8) + p / 8 ≡ 4 * (0 + z) + i = omega arith in
     bit_shr r (8 * i) (0 + z) ∙ move p (omega arith) ∙ ap (bit x) from)
 
--- the bytes at place l of one block, those of the other blocks being 0
-pub alone : (xs : List ℕ) (l : ℕ) → length xs ≡ 25 → l < 25 → get_or xs l 0 < 2 ^ 8
-    → (p : ℕ) → p < 32 → bit (get_or xs l 0) p ≡ of_bytes (λ i. get_or xs (25 * i + l) 0) p
-alone xs l all hl small p hp =
+-- the number of n bytes, the lowest first
+abbrev pub joined : ℕ → (ℕ → ℕ) → ℕ
+joined zero g = 0
+joined (suc n) g = g 0 + joined n (λ i. g (suc i)) * 256
+
+pub bit_of_joined : (n : ℕ) (g : ℕ → ℕ) (p : ℕ) → ((i : ℕ) → g i < 256) → p < 8 * n → bit (joined n g) p ≡ of_bytes g p
+bit_of_joined zero g p small h = absurd (omega arith)
+bit_of_joined (suc n) g p small h =
+    let rest = joined n (λ i. g (suc i)) in
+    let first = small 0 in
     ⊎_elim
-    (λ h.
-    let row : l ≡ 25 * (p / 8) + l = omega arith in
+    (λ l.
+    let low : (g 0 + rest * 256) % 2 ^ 8 ≡ g 0 = omega (arith, first) in
+    let row : 0 ≡ p / 8 = omega arith in
     let col : p ≡ p % 8 = omega arith in
-    ap₂ (λ m z. bit (get_or xs m 0) z) row col)
-    (λ h.
-    bit_past (get_or xs l 0) 8 p small h ∙ sym (bit_past 0 0 (p % 8) (lit< tt) zero-le)
-    ∙ ap (λ n. bit n (p % 8)) (sym (get_or_past xs (25 * (p / 8) + l) 0 (omega arith))))
+    sym (bit_mod (g 0 + rest * 256) 8 p l) ∙ ap (λ m. bit m p) low ∙ ap₂ (λ i z. bit (g i) z) row col)
+    (λ l.
+    let high : (g 0 + rest * 256) / 2 ^ 8 ≡ rest = omega (arith, first) in
+    let back : p ≡ 8 + (p - 8) = omega arith in
+    let row : suc ((p - 8) / 8) ≡ p / 8 = omega arith in
+    let col : (p - 8) % 8 ≡ p % 8 = omega arith in
+    ap (bit (g 0 + rest * 256)) back ∙ sym (bit_shr (g 0 + rest * 256) 8 (p - 8)) ∙ ap (λ m. bit m (p - 8)) high
+    ∙ bit_of_joined n (λ i. g (suc i)) (p - 8) (λ i. small (suc i)) (omega arith) ∙ ap₂ (λ i z. bit (g i) z) row col)
     (cases_lt p 8)

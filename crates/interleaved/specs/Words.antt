@@ -41,13 +41,21 @@ w_chi ws x y = bit_xor (lane ws x y) (bit_and (4294967295 - lane ws ((x + 1) % 5
 abbrev pub woven : (ℕ → ℕ) → ℕ
 woven f = word (λ k. bit (f (k % 4)) (k / 4)) 0 32
 
+-- The first word has k added.
+abbrev pub w_add : ℕ → List ℕ → List ℕ
+w_add k ws = slice_set ws 0 (bit_xor (slice_index ws 0) k)
+
 -- A constant goes to each of the four blocks.
 abbrev pub w_iota : ℕ → List ℕ → List ℕ
-w_iota c ws = slice_set ws 0 (bit_xor (slice_index ws 0) (woven (λ _. c)))
+w_iota c ws = w_add (woven (λ _. c)) ws
+
+-- The layers of a round before iota.
+abbrev pub w_layers : List ℕ → List ℕ
+w_layers ws = words (w_chi (words (w_pi (words (w_rho (words (w_theta ws)))))))
 
 -- One round with constant c.
 unfoldable pub w_round : ℕ → List ℕ → List ℕ
-w_round c ws = w_iota c (words (w_chi (words (w_pi (words (w_rho (words (w_theta ws))))))))
+w_round c ws = w_iota c (w_layers ws)
 
 -- The words after k rounds.
 unfoldable pub w_after : ℕ → List ℕ → List ℕ
@@ -65,6 +73,10 @@ loaded xs = made 25 (gathered xs)
 -- The byte of block i in a word.
 abbrev pub lifted : ℕ → ℕ → ℕ
 lifted w i = word (λ z. bit w (4 * z + i)) 0 8
+
+-- The blocks xs where byte l of each is that of a word.
+abbrev pub scattered : ℕ → ℕ → List ℕ → List ℕ
+scattered w l xs = slice_set (slice_set (slice_set (slice_set xs l (lifted w 0)) (25 + l) (lifted w 1)) (50 + l) (lifted w 2)) (75 + l) (lifted w 3)
 
 -- Byte p of the neighbouring blocks that the words hold.
 abbrev pub stored_at : List ℕ → ℕ → ℕ

@@ -1,8 +1,8 @@
 // The way of the bytes of blocks into the words that hold four blocks bit by bit, and back.
-ghost use Rattle.std.specs.Prelude.{◌≡◌, ℕ, ◌<◌, true, length};
+ghost use Rattle.std.specs.Prelude.{◌≡◌, ℕ, ◌<◌, ◌≤◌, true, length, slice_index, slice_set};
 ghost use Rattle.engine.specs.Bits.{bit};
 ghost use Rattle.interleaved.specs.Moves.{exchanged, apart, Moved, woven_from, unwoven_from};
-ghost use Rattle.interleaved.specs.Words.{loaded, stored};
+ghost use Rattle.interleaved.specs.Words.{gathered, scattered, loaded, stored};
 
 // Exchanges the bits of x under m with those k places above.
 fn exchange(x: u32, k: u32, m: u32) -> u32
@@ -23,7 +23,8 @@ fn weave(x: u32) -> u32
     exchange(c, 14, 0x0000CCCC)
 }
 
-// Takes the bit at place 4 z + i to bit z of byte i.
+// Takes the bit at place 4 z + i to bit z of byte i: the exchanges of weave, the last of them first. A table of
+// them, walked both ways, would say no more than these four lines.
 fn unweave(x: u32) -> u32
     ensures { Moved unwoven_from x result }
 {
@@ -33,55 +34,64 @@ fn unweave(x: u32) -> u32
     exchange(c, 1, 0x22222222)
 }
 
-// The words of four neighbouring blocks.
-pub(crate) fn load_four(blocks: &[u8]) -> [u32; 25]
-    requires { length blocks.now ≡ 100 }
+// The byte at a place, or 0 past the end.
+fn byte_at(blocks: &[u8], place: usize) -> u8
+    ensures { result ≡ slice_index blocks.now place }
+{
+    blocks.get(place).copied().unwrap_or(0)
+}
+
+// Writes a byte at a place, and nothing past the end.
+fn put(blocks: &mut [u8], place: usize, byte: u8)
+    ensures { blocks.new ≡ slice_set blocks.old place byte }
+{
+    if place < blocks.len() {
+        blocks[place] = byte;
+    }
+}
+
+// Byte l of each of four neighbouring blocks in one word. Where there are fewer blocks, the others' bits are 0.
+fn gather(blocks: &[u8], l: usize) -> u32
+    requires { l < 25 }
+    ensures { result ≡ gathered blocks.now l }
+{
+    weave(u32::from_le_bytes([
+        byte_at(blocks, l),
+        byte_at(blocks, 25 + l),
+        byte_at(blocks, 50 + l),
+        byte_at(blocks, 75 + l),
+    ]))
+}
+
+// Byte l of each of the blocks becomes that which a word holds.
+fn scatter(word: u32, l: usize, blocks: &mut [u8])
+    requires { l < 25 }
+    ensures { blocks.new ≡ scattered word l blocks.old }
+{
+    let [first, second, third, fourth] = unweave(word).to_le_bytes();
+    put(blocks, l, first);
+    put(blocks, 25 + l, second);
+    put(blocks, 50 + l, third);
+    put(blocks, 75 + l, fourth);
+}
+
+// The words of up to four neighbouring blocks.
+pub(crate) fn load(blocks: &[u8]) -> [u32; 25]
     ensures { result ≡ loaded blocks.now }
 {
-    let mut s = [0; 25];
-    for l in 0..25 {
-        s[l] = weave(
-            blocks[l] as u32
-                | (blocks[25 + l] as u32) << 8
-                | (blocks[50 + l] as u32) << 16
-                | (blocks[75 + l] as u32) << 24,
-        );
+    let mut words = [0; 25];
+    for (l, word) in words.iter_mut().enumerate() {
+        *word = gather(blocks, l);
     }
-    s
+    words
 }
 
-// The words of one block, which is the first of four.
-pub(crate) fn load_one(block: &[u8]) -> [u32; 25]
-    requires { length block.now ≡ 25 }
-    ensures { result ≡ loaded block.now }
+// Writes the first of the four blocks that the words hold, as many as there is room for.
+pub(crate) fn store(words: &[u32; 25], blocks: &mut [u8])
+    requires { length blocks.old ≤ 100 }
+    ensures { blocks.new ≡ stored (length blocks.old) words.now }
 {
-    let mut s = [0; 25];
-    for l in 0..25 {
-        s[l] = weave(block[l] as u32);
-    }
-    s
-}
-
-// Writes the four blocks that the words hold.
-pub(crate) fn store_four(words: &[u32; 25], blocks: &mut [u8])
-    requires { length blocks.old ≡ 100 }
-    ensures { blocks.new ≡ stored 100 words.now }
-{
-    for l in 0..25 {
-        let x = unweave(words[l]);
-        blocks[l] = (x % 256) as u8;
-        blocks[25 + l] = ((x >> 8) % 256) as u8;
-        blocks[50 + l] = ((x >> 16) % 256) as u8;
-        blocks[75 + l] = (x >> 24) as u8;
-    }
-}
-
-// Writes the first of the four blocks that the words hold.
-pub(crate) fn store_one(words: &[u32; 25], block: &mut [u8])
-    requires { length block.old ≡ 25 }
-    ensures { block.new ≡ stored 25 words.now }
-{
-    for l in 0..25 {
-        block[l] = (unweave(words[l]) % 256) as u8;
+    for (l, word) in words.iter().enumerate() {
+        scatter(*word, l, blocks);
     }
 }

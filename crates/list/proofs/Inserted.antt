@@ -3,11 +3,10 @@ use Rattle.std.proofs.Common.{◌≡◌, ℕ, zero, suc, ◌+◌, ◌-◌, ◌<�
 use Rattle.std.specs.Ordering.{is_eq, is_lt}
 use Rattle.std.specs.List.{ContainsAt}
 use Rattle.std.proofs.lemmas.List.Edits.{length-insert as length_put_in, get_or-insert_below, get_or-insert_at, get_or-insert_above}
-use Rattle.std.proofs.lemmas.List.Sums.{prefix_len-le-length}
+use Rattle.std.proofs.lemmas.List.Sums.{prefix_len-le-length, prefix_len_passes, prefix_len_stops}
 use Rattle.std.proofs.lemmas.Bool.{cases_order, or_parts, true≢false}
 use Rattle.list.specs.Insertion.{has_equal, ahead, inserted}
 use Rattle.list.specs.Keeping.{GainsOneEntry}
-use Rattle.list.proofs.Fronts.{leading_passes, leading_stops}
 
 pub less_is : (o : Ordering) → is_lt o ≡ true → o ≡ Less
 less_is Less h = refl
@@ -32,11 +31,11 @@ module _ {X : Type 0} (order : X → X → Ordering) (e : X) (xs : List X) where
 
   pub comes_before : (k : ℕ) (d : X) → k < ahead order e xs → order (get_or xs k d) e ≡ Less
   unfolding ahead
-  comes_before k d h = less_is _ (leading_passes (λ x. is_lt (order x e)) xs k d h)
+  comes_before k d h = less_is _ (prefix_len_passes (λ x. is_lt (order x e)) xs k d h)
 
   pub not_before : (d : X) → ahead order e xs < length xs → is_lt (order (get_or xs (ahead order e xs) d) e) ≡ false
   unfolding ahead
-  not_before d h = leading_stops (λ x. is_lt (order x e)) xs d h
+  not_before d h = prefix_len_stops (λ x. is_lt (order x e)) xs d h
 
   pub length_inserted : length (inserted order e xs) ≡ length xs + 1
   unfolding inserted

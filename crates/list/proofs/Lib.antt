@@ -1,5 +1,4 @@
 pub mod Filling
-pub mod Fronts
 pub mod Granted
 pub mod Inserted
 pub mod Last

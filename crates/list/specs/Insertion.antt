@@ -1,11 +1,16 @@
 -- What inserting an entry does: when it is refused, and what the places of the list hold afterwards.
 use Rattle.std.specs.Prelude.{ℕ, ◌+◌, Bool, false, cond, ◌||◌, List, [], ◌∷◌, ◌++◌, length, take, drop, Some, None, Ok, Err, Option, Result, nat_lt}
+use Rattle.std.specs.Borrow.{MutBor}
 use Rattle.std.specs.declared.cmp.Ordering.{Ordering}
 use Rattle.std.specs.Ordering.{is_eq, is_lt}
 use Rattle.std.specs.List.{prefix_len}
 use Rattle.list.specs.declared.ordered.Ordered.{Ordered}
 use Rattle.list.specs.declared.faults.ListFault.{ListFault}
 use Rattle.list.specs.declared.faults.ListFault.TheVariants.{EqualEntry, Full}
+
+-- The list that has no entries yet, over these places.
+abbrev pub empty_over : {X : Type 0} → MutBor (List X) → Ordered X
+empty_over places = record { places = places; count = 0 }
 
 -- The entries of a list: as many of its first places as it counts, or all of them if it counts more.
 abbrev pub entries_of : {X : Type 0} → Ordered X → List X

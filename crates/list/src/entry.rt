@@ -6,7 +6,8 @@ ghost use Rattle.list.specs.Order.{TotalOrder};
 
 use std::cmp::Ordering;
 
-// A kind of entry that a list can hold. Entries that are equal in order may differ elsewhere.
+// A kind of entry that a list can hold. Its order is not std's `Ord`, which asks that `==` holds where entries are equal in order: they may differ
+// elsewhere. Nor is it told by a key: an order that is no key's own would need a type for its keys, and each comparison a copy of two keys.
 pub trait Entry: Copy {
     // How two entries stand to each other in the order.
     ghost compares: { Self → Self → Comparison };

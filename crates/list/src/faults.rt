@@ -1,9 +1,8 @@
 // Why an insertion is refused.
 
-ghost use Rattle.std.specs.Prelude.{◌≡◌};
 ghost use Rattle.list.specs.Faults.{number_of, layer_of, place_of};
 
-use fault::{Layer, Place};
+use fault::{Fault, Layer, Place};
 
 #[derive(Clone, Copy, PartialEq, Eq, Debug)]
 pub enum ListFault {
@@ -13,25 +12,25 @@ pub enum ListFault {
     Full,
 }
 
-impl ListFault {
-    pub fn number(self) -> u8
-        ensures { result ≡ number_of self }
-    {
+impl Fault for ListFault {
+    ghost number_is = { number_of };
+
+    ghost layer_is = { layer_of };
+
+    ghost place_is = { place_of };
+
+    fn number(self) -> u8 {
         match self {
             ListFault::EqualEntry => 17,
             ListFault::Full => 18,
         }
     }
 
-    pub fn layer(self) -> Layer
-        ensures { result ≡ layer_of self }
-    {
+    fn layer(self) -> Layer {
         Layer::List
     }
 
-    pub fn place(self) -> Place
-        ensures { result ≡ place_of self }
-    {
+    fn place(self) -> Place {
         Place::Zero
     }
 }

@@ -1,15 +1,14 @@
 // The list itself: its entries are the first places of a lent slice.
 
 ghost use Rattle.std.specs.Prelude.{◌≡◌, ◌+◌, ◌-◌, ◌<◌, ◌≤◌, ◌∷◌, ◌++◌, length, take, drop, Ok, Err};
-ghost use Rattle.list.specs.Insertion.{entries_of, has_equal, ahead, refusal, unless_refused, answer_of, count_after, places_after};
+ghost use Rattle.list.specs.Insertion.{empty_over, entries_of, has_equal, ahead, refusal, unless_refused, answer_of, count_after, places_after};
 ghost use Rattle.list.specs.Keeping.{RisingStaysRising, KeepsEveryEntry};
 
 use crate::entry::Entry;
 use crate::faults::ListFault;
-use std::cmp::Ordering;
 
-// A list over lent places: its entries are the first `count` of them, or all if `count` is larger.
-// It is made by writing both fields, with `count` 0 for an empty list.
+// A list over lent places, so that it needs no heap: its entries are the first `count` of them, or all if `count` is larger.
+// Over places that hold entries already it is made by writing both fields.
 #[derive(Drop)]
 pub struct Ordered<'a, T> {
     pub places: &'a mut [T],
@@ -17,12 +16,19 @@ pub struct Ordered<'a, T> {
 }
 
 impl<'a, T: Entry> Ordered<'a, T> {
+    // The empty list over these places.
+    pub fn new(places: &'a mut [T]) -> Ordered<'a, T>
+        ensures { result ≡ empty_over places.entry }
+    {
+        Ordered { places, count: 0 }
+    }
+
     // The entries, in their order.
     pub fn entries(&self) -> &[T]
         ensures { result.now ≡ entries_of self.now }
     {
         let used = self.count.min(self.places.len());
-        &self.places[0..used]
+        &self.places[..used]
     }
 
     // The checks of an insertion, in their order.
@@ -60,27 +66,14 @@ impl<'a, T: Entry> Ordered<'a, T> {
 fn has_equal<T: Entry>(entries: &[T], e: &T) -> bool
     ensures { result ≡ has_equal T.compares e.now entries.now }
 {
-    for x in entries {
-        match x.compare(e) {
-            Ordering::Equal => return true,
-            _ => {}
-        }
-    }
-    false
+    entries.iter().any(|x| x.compare(e).is_eq())
 }
 
-// How many entries at the front come before `e`.
+// How many entries at the front come before `e`. They are looked at one by one, since the entries of a list made over any places need not rise.
 fn count_ahead<T: Entry>(entries: &[T], e: &T) -> usize
     ensures { result ≡ ahead T.compares e.now entries.now }
 {
-    let mut i = 0;
-    while i < entries.len() {
-        match entries[i].compare(e) {
-            Ordering::Less => i += 1,
-            _ => return i,
-        }
-    }
-    i
+    entries.iter().take_while(|x| x.compare(e).is_lt()).count()
 }
 
 // Moves what lies from `at` up to `end` one place on, over the place at `end`, and stores `e` at `at`.

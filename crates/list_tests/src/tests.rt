@@ -1,7 +1,7 @@
 // What insertions answer and leave, on small lists.
 
 use crate::kinds::*;
-use fault::{Layer, Place};
+use fault::{Fault, Layer, Place};
 use list::{Entry, ListFault, Ordered};
 use std::process::Abort;
 
@@ -32,10 +32,7 @@ fn answers<T: Entry + Drop>(
 #[test]
 fn entries_come_by_rising_number(rt: HostRuntime) {
     let mut places = [BLANK; 4];
-    let mut list = Ordered {
-        places: &mut places,
-        count: 0,
-    };
+    let mut list = Ordered::new(&mut places);
     answers(
         &rt,
         &mut list,
@@ -61,10 +58,7 @@ fn entries_come_by_rising_number(rt: HostRuntime) {
 #[test]
 fn offers_come_by_falling_amount(rt: HostRuntime) {
     let mut places = [offer(0, 0); 3];
-    let mut list = Ordered {
-        places: &mut places,
-        count: 0,
-    };
+    let mut list = Ordered::new(&mut places);
     answers(
         &rt,
         &mut list,
@@ -107,10 +101,7 @@ fn places_behind_the_entries_stay(rt: HostRuntime) {
 #[test]
 fn an_equal_entry_is_refused_though_it_differs_elsewhere(rt: HostRuntime) {
     let mut places = [BLANK; 3];
-    let mut list = Ordered {
-        places: &mut places,
-        count: 0,
-    };
+    let mut list = Ordered::new(&mut places);
     answers(
         &rt,
         &mut list,
@@ -146,10 +137,7 @@ fn a_full_list_refuses_an_equal_entry_first(rt: HostRuntime) {
 #[test]
 fn no_place_and_a_count_too_large_are_full(rt: HostRuntime) {
     let mut none: [Instrument; 0] = [];
-    let mut empty = Ordered {
-        places: &mut none,
-        count: 0,
-    };
+    let mut empty = Ordered::new(&mut none);
     answers(
         &rt,
         &mut empty,

@@ -1,5 +1,5 @@
 -- Facts about answers and about checks in order.
-use Rattle.std.proofs.Common.{◌≡◌, ℕ, Bool, true, false, cond, List, [], ◌∷◌, ◌++◌, Ok, Err, Result, sym, refl, ap, arith}
+use Rattle.std.proofs.Common.{◌≡◌, ℕ, Bool, true, false, cond, List, [], ◌∷◌, ◌++◌, Ok, Err, Result, sym, ap, arith}
 use Rattle.fault.specs.Checks.{Check, decided}
 
 -- What a grant answers, and what a refusal tells.
@@ -32,15 +32,3 @@ decided_front {X} {Y} {F} (c ∷ cs) ds x y f h = go c.0 (decided_front cs ds x 
     go : (t : Bool) → (◌≡◌ {A = Result X F} (Err f) (decided cs x) → ◌≡◌ {A = Result Y F} (decided (cs ++ ds) y) (Err f)) → ◌≡◌ {A = Result X F} (Err f) (cond t (decided cs x) (Err c.1)) → ◌≡◌ {A = Result Y F} (cond t (decided (cs ++ ds) y) (Err c.1)) (Err f)
     go true ih h = ih h
     go false ih h = ap (λ g. Err g) (sym (same_reason f c.1 h))
-
--- One check, and how it is decided.
-pub one_passed : {F : Type 0} (t : Bool) (f : F) → ◌≡◌ {A = Result (Unit {0}) F} (Ok tt) (decided ((t, f) ∷ []) tt) → t ≡ true
-one_passed true f h = refl
-one_passed false f h = absurd (not_both tt f h)
-
-pub one_failed : {F : Type 0} (t : Bool) (f g : F) → ◌≡◌ {A = Result (Unit {0}) F} (Err g) (decided ((t, f) ∷ []) tt) → (t ≡ false) × (g ≡ f)
-one_failed true f g h = absurd (not_both tt g (sym h))
-one_failed false f g h = (refl, same_reason g f h)
-
-pub false_not_true : false ≡ true → ⊥
-false_not_true h = let z : ◌≡◌ {A = ℕ} 0 1 = ap (λ t. cond t 1 0) h in absurd (omega arith)

@@ -1,9 +1,9 @@
 -- Facts about registers that rise, and about a room just made.
-use Rattle.std.proofs.Common.{◌≡◌, ℕ, ◌+◌, ◌^◌, ◌<◌, ◌≤◌, true, false, List, [], ◌∷◌, ◌++◌, map, length, get_or, take, drop, Ok, refl, ap, ◌∙◌, ap₂}
-use Rattle.std.specs.List.{AllByRecursion}
+use Rattle.std.proofs.Common.{◌≡◌, ◌&&◌, ℕ, zero, suc, ◌+◌, Bool, ltb, leb, sym, subst, add-one, arith, ◌^◌, ◌<◌, ◌≤◌, true, false, List, [], ◌∷◌, ◌++◌, map, length, get_or, take, Ok, refl, ap, ◌∙◌, ap₂}
+use Rattle.std.specs.List.{AllByRecursion, IsAllAdjacentAnswer}
 use Rattle.std.proofs.ByRecursion.{All-push}
-use Rattle.std.proofs.lemmas.Bool.{le-leb, lt-leb}
-use Rattle.std.proofs.lemmas.List.{drop_more, drop_all, take_more, take_at, length-map}
+use Rattle.std.proofs.lemmas.Bool.{le-leb, lt-leb, ltb-true, ltb-false}
+use Rattle.std.proofs.lemmas.List.{take_more, take_at, length-map}
 use Rattle.engine.specs.declared.variants.Variant.{Variant}
 use Rattle.room.specs.Sales.{Bytes}
 use Rattle.room.specs.Rooms.{holding_of, contents}
@@ -18,19 +18,30 @@ use Rattle.room.specs.declared.state.RoomState.{RoomState}
 abbrev pub nobody : RegisterEntry
 nobody = record { bidder = 0; key = [] }
 
--- Going through a register: an entry that is too low, one that is not, and the end.
-pub rises_no : (m : ℕ) (xs : List RegisterEntry) (i : ℕ) → i < length xs → (get_or xs i nobody).bidder < m → rises_from m (drop i xs) ≡ false
-rises_no m xs i l h =
-    let q : rises_from m (get_or xs i nobody ∷ drop (i + 1) xs) ≡ false = rw (lt-leb m (get_or xs i nobody).bidder h) in
-    ap (rises_from m) (drop_more xs i nobody l) ∙ q
+-- Registers whose neighbours rise, and those with two neighbours that do not.
+rising : (x : RegisterEntry) (xs : List RegisterEntry) → ((k : ℕ) (d : RegisterEntry) → suc k < length (x ∷ xs) → (get_or (x ∷ xs) k d).bidder < (get_or (x ∷ xs) (suc k) d).bidder) → rises_from (x.bidder + 1) xs ≡ true
+rising x [] h = refl
+rising x (y ∷ ys) h =
+    let up : x.bidder < y.bidder = h 0 nobody (omega arith) in
+    rw (le-leb (x.bidder + 1) y.bidder (omega arith)) (rising y ys (λ k d l. h (suc k) d (omega arith)))
 
-pub rises_yes : (m : ℕ) (xs : List RegisterEntry) (i : ℕ) → i < length xs → m ≤ (get_or xs i nobody).bidder → rises_from m (drop i xs) ≡ rises_from ((get_or xs i nobody).bidder + 1) (drop (i + 1) xs)
-rises_yes m xs i l h =
-    let q : rises_from m (get_or xs i nobody ∷ drop (i + 1) xs) ≡ rises_from ((get_or xs i nobody).bidder + 1) (drop (i + 1) xs) = rw (le-leb m (get_or xs i nobody).bidder h) in
-    ap (rises_from m) (drop_more xs i nobody l) ∙ q
+falling : (x : RegisterEntry) (xs : List RegisterEntry) (k : ℕ) → suc k < length (x ∷ xs) → (get_or (x ∷ xs) (suc k) nobody).bidder ≤ (get_or (x ∷ xs) k nobody).bidder → rises_from (x.bidder + 1) xs ≡ false
+falling x [] k l h = absurd (omega arith)
+falling x (y ∷ ys) zero l h = rw (lt-leb (x.bidder + 1) y.bidder (omega arith)) refl
+falling x (y ∷ ys) (suc k) l h = rw (falling y ys k (omega arith) h) (either (leb (x.bidder + 1) y.bidder))
+  where
+    either : (t : Bool) → (t && false) ≡ false
+    either true = refl
+    either false = refl
 
-pub rises_all : (m : ℕ) (xs : List RegisterEntry) (i : ℕ) → length xs ≤ i → rises_from m (drop i xs) ≡ true
-rises_all m xs i h = ap (rises_from m) (drop_all i xs h)
+pub rises_sorted : (xs : List RegisterEntry) (r : Bool) → IsAllAdjacentAnswer (λ x y b. b ≡ ltb x.bidder y.bidder) xs r → r ≡ rises_from 0 xs
+rises_sorted [] true a = refl
+rises_sorted [] false a = absurd (omega (arith, a.1))
+rises_sorted (x ∷ xs) true a =
+    rw (le-leb 0 x.bidder (omega arith)) (sym (rising x xs (λ k d l. ltb-true _ _ (sym (subst (λ n. true ≡ ltb (get_or (x ∷ xs) k d).bidder (get_or (x ∷ xs) n d).bidder) (add-one _) (a k d (omega arith)))))))
+rises_sorted (x ∷ xs) false a =
+    rw (le-leb 0 x.bidder (omega arith))
+    (sym (falling x xs a.0 (omega (arith, a.1)) (ltb-false _ _ (sym (subst (λ n. false ≡ ltb (get_or (x ∷ xs) a.0 nobody).bidder (get_or (x ∷ xs) n nobody).bidder) (add-one _) (a.2 nobody))))))
 
 abbrev pub Fits : RegisterEntry → Type 0
 Fits x = x.bidder < 2 ^ 32

@@ -1,5 +1,5 @@
 -- Facts about the sheet of slots: one slot more, how long its page can be, and how both are written.
-use Rattle.std.proofs.Common.{◌≡◌, ℕ, suc, ◌+◌, ◌-◌, ◌*◌, ◌^◌, ◌<◌, ◌≤◌, Bool, true, false, cond, ltb, List, [], ◌∷◌, ◌++◌, map, length, get_or, take, drop, set, Some, None, Option, sym, refl, ap, ◌∙◌, ap₂, arith}
+use Rattle.std.proofs.Common.{◌≡◌, ℕ, suc, ◌+◌, ◌*◌, ◌^◌, ◌<◌, ◌≤◌, Bool, true, false, cond, ltb, List, [], ◌∷◌, ◌++◌, map, length, get_or, take, drop, set, Some, None, Option, sym, refl, ap, ◌∙◌, ap₂, arith}
 use Rattle.std.specs.List.{flat_map, AllByRecursion}
 use Rattle.std.specs.Str.{bytes_eq}
 use Rattle.std.proofs.lemmas.Fmt.{length-decimal-le}
@@ -23,7 +23,7 @@ use Rattle.room.specs.declared.slots.Phase.{Phase}
 use Rattle.room.specs.declared.slots.Phase.TheVariants.{Closed}
 use Rattle.room.specs.declared.slots.Slot.{Slot}
 use Rattle.room.specs.declared.state.RoomState.{RoomState}
-use Rattle.room.proofs.CodePages.{length_line, page_length, names_length}
+use Rattle.room.proofs.CodePages.{length_line, page_length}
 
 -- A sheet, one slot more.
 listed_append : (r : Contents) (hs ks : List Holding) → listed r (hs ++ ks) ≡ listed r hs ++ listed r ks
@@ -145,7 +145,6 @@ page_fits v lot terms xs h few all =
     let a = lines_le lot (sheet_in v lot terms xs) h (small_sheet v lot terms xs all) in
     let b = sheet_le v lot terms xs in
     let c = page_length lot (sheet_in v lot terms xs) in
-    let d = names_length in
     omega arith
 
 -- The sheet and the page of a room, as they are written.
@@ -153,8 +152,8 @@ pub sheet_is : (v : Variant) (r : RoomState) → sheet_in v r.lot (take r.terms_
 sheet_is v r =
     listed_same v r.lot (take r.terms_bytes r.terms) Closed r.phase [] (take r.count r.slots) (map (holding_of v r.lot) (take r.count r.slots))
 
-pub over_taken : {X : Type 0} (s old new : List X) (n : ℕ) → n ≡ length s → new ≡ written_over s old → take (n - 0) new ≡ s
-over_taken s old new n en e = let z : n - 0 ≡ length s = omega arith in ap₂ take z e ∙ take_at s (drop (length s) old) (length s) refl
+pub over_taken : {X : Type 0} (s old new : List X) (n : ℕ) → n ≡ length s → new ≡ written_over s old → take n new ≡ s
+over_taken s old new n en e = ap₂ take en e ∙ take_at s (drop (length s) old) (length s) refl
 
 pub at_start : (old new : Bytes) → written_at old 0 new ≡ written_over new old
 at_start old new = let z : 0 + length new ≡ length new = omega arith in ap (λ k. new ++ drop k old) z

@@ -1,8 +1,8 @@
 -- Facts about the checks of tags: what they answer, and what a checked letter opens to.
-use Rattle.std.proofs.Common.{◌≡◌, ℕ, ◌-◌, ◌≤◌, Bool, true, false, cond, [], ◌∷◌, length, take, drop, Ok, Err, Result, sym, refl, ap, ◌∙◌, arith}
+use Rattle.std.proofs.Common.{◌≡◌, ℕ, ◌≤◌, Bool, true, false, cond, length, take, drop, Ok, Err, Result, sym, refl, ap, ◌∙◌, arith}
 use Rattle.std.specs.Int.Digits.{number_from_digits, AllBelowBase}
 use Rattle.std.specs.Str.{bytes_eq}
-use Rattle.std.proofs.lemmas.List.{take_rest, length-take-le, length-drop}
+use Rattle.std.proofs.lemmas.List.{length-take-le, length-drop, drop-drop}
 use Rattle.fault.specs.Checks.{decided}
 use Rattle.engine.specs.declared.variants.Variant.{Variant}
 use Rattle.cipher.specs.Mode.{tag, opened_text}
@@ -12,8 +12,10 @@ use Rattle.cipher.specs.declared.faults.CipherFault.{CipherFault}
 use Rattle.cipher.specs.declared.faults.CipherFault.TheVariants.{WrongTag}
 use Rattle.cipher.proofs.Laws.{sized_check, opens_as_checked}
 use Rattle.envelope.specs.Letters.{amount_offered}
-use Rattle.envelope.specs.Envelopes.{envelope_size, head_part, sealed_part, tag_part, right_tag}
+use Rattle.envelope.specs.Envelopes.{envelope_size, head_part, sealed_part, tag_part}
+use Rattle.envelope.specs.declared.heads.HeadFields.{HeadFields}
 use Rattle.room.specs.Sales.{Bytes}
+use Rattle.room.specs.Slots.{tag_checks}
 use Rattle.room.specs.declared.faults.RoomFault.{RoomFault}
 use Rattle.room.specs.declared.faults.RoomFault.TheVariants.{WrongTag as RoomWrongTag}
 use Rattle.room.proofs.CodeChecks.{not_both, same_value, same_reason}
@@ -47,8 +49,9 @@ module _ (v : Variant) (key nonce ad text tag_place : Bytes) (sizes : LawfulSize
       let q = p.0 in
       rw q (en ∙ ap amount_offered (ew ∙ ap opened p.1 ∙ opens_as_checked v key nonce text sizes.key_length sizes.nonce_length uk un))
 
--- The check of an envelope of its variant's length.
-module _ (v : Variant) (key terms e : Bytes) (lk : length key ≡ 16) (lt : length terms ≤ 64) (le : length e ≡ envelope_size v) (b s : ℕ) where
+-- The check of an envelope of its variant's length, by its parts.
+module _ (v : Variant) (key terms e : Bytes) (lk : length key ≡ 16) (lt : length terms ≤ 64) (le : length e ≡ envelope_size v) (h : HeadFields)
+    (nonce rest letter tag_place : Bytes) (en : nonce ≡ take 12 e) (er : rest ≡ drop 12 e) (el : letter ≡ take 64 rest) (et : tag_place ≡ drop 64 rest) where
   envelope_sizes : LawfulSizes v key (head_part e) terms (sealed_part e) (tag_part e)
   envelope_sizes = record {
     key_length = lk;
@@ -58,16 +61,22 @@ module _ (v : Variant) (key terms e : Bytes) (lk : length key ≡ 16) (lt : leng
     tag_length = length-drop 76 e ∙ omega arith;
   }
 
-  pub tag_refused : (f : CipherFault) → ◌≡◌ {A = Result CheckedText CipherFault} (Err f) (check_answer v key (take 12 e) terms (take 64 (drop 12 e)) (take (length e - 76) (drop 76 e)))
-      → ◌≡◌ {A = Result (Unit {0}) RoomFault} (Err (RoomWrongTag b s f)) (decided ((bytes_eq (tag_part e) (right_tag v key terms e), RoomWrongTag b s WrongTag) ∷ []) tt)
-  tag_refused f h =
-      let p = check_failed v key (head_part e) terms (sealed_part e) (tag_part e) envelope_sizes f (h ∙ ap (check_answer v key (take 12 e) terms (take 64 (drop 12 e))) (take_rest e 76)) in
-      let q = p.0 in
-      rw q (ap (λ g. Err (RoomWrongTag b s g)) p.1)
+  by_parts : check_answer v key nonce terms letter tag_place ≡ check_answer v key (head_part e) terms (sealed_part e) (tag_part e)
+  by_parts =
+      let pl : letter ≡ sealed_part e = el ∙ ap (take 64) er in
+      let pt : tag_place ≡ tag_part e = et ∙ ap (drop 64) er ∙ drop-drop 64 12 e in
+      λ i. check_answer v key (en i) terms (pl i) (pt i)
 
-  pub tag_accepted : (t : CheckedText) → ◌≡◌ {A = Result CheckedText CipherFault} (Ok t) (check_answer v key (take 12 e) terms (take 64 (drop 12 e)) (take (length e - 76) (drop 76 e)))
-      → ◌≡◌ {A = Result (Unit {0}) RoomFault} (Ok tt) (decided ((bytes_eq (tag_part e) (right_tag v key terms e), RoomWrongTag b s WrongTag) ∷ []) tt)
-  tag_accepted t h =
-      let p = check_passed v key (head_part e) terms (sealed_part e) (tag_part e) envelope_sizes t (h ∙ ap (check_answer v key (take 12 e) terms (take 64 (drop 12 e))) (take_rest e 76)) in
-      let q = p.0 in
-      rw q
+  pub tag_refused : (f : CipherFault) → ◌≡◌ {A = Result CheckedText CipherFault} (Err f) (check_answer v key nonce terms letter tag_place)
+      → ◌≡◌ {A = Result (Unit {0}) RoomFault} (Err (RoomWrongTag h.bidder h.sequence f)) (decided (tag_checks v key terms h e) tt)
+  tag_refused f q =
+      let p = check_failed v key (head_part e) terms (sealed_part e) (tag_part e) envelope_sizes f (q ∙ by_parts) in
+      let wrong = p.0 in
+      rw wrong (ap (λ g. Err (RoomWrongTag h.bidder h.sequence g)) p.1)
+
+  pub tag_accepted : (t : CheckedText) → ◌≡◌ {A = Result CheckedText CipherFault} (Ok t) (check_answer v key nonce terms letter tag_place)
+      → ◌≡◌ {A = Result (Unit {0}) RoomFault} (Ok tt) (decided (tag_checks v key terms h e) tt)
+  tag_accepted t q =
+      let p = check_passed v key (head_part e) terms (sealed_part e) (tag_part e) envelope_sizes t (q ∙ by_parts) in
+      let right = p.0 in
+      rw right

@@ -4,9 +4,9 @@ ghost use Rattle.room.specs.Faults.{fault_number, fault_layer, fault_place};
 ghost use Rattle.room.specs.declared.faults.RoomFault.TheVariants.{Cipher as by_cipher};
 
 use cipher::CipherFault;
-use fault::{Layer, Place};
+use fault::{Fault, Layer, Place};
 
-#[derive(Clone, Copy)]
+#[derive(Clone, Copy, PartialEq, Eq, Debug)]
 pub enum RoomFault {
     // The terms have more than 64 bytes.
     TermsLength,
@@ -36,10 +36,14 @@ pub enum RoomFault {
     Cipher(CipherFault),
 }
 
-impl RoomFault {
-    pub fn number(self) -> u8
-        ensures { result ≡ fault_number self }
-    {
+impl Fault for RoomFault {
+    ghost number_is = { fault_number };
+
+    ghost layer_is = { fault_layer };
+
+    ghost place_is = { fault_place };
+
+    fn number(self) -> u8 {
         match self {
             RoomFault::TermsLength => 15,
             RoomFault::Register => 16,
@@ -59,15 +63,11 @@ impl RoomFault {
         }
     }
 
-    pub fn layer(self) -> Layer
-        ensures { result ≡ fault_layer self }
-    {
+    fn layer(self) -> Layer {
         Layer::Room
     }
 
-    pub fn place(self) -> Place
-        ensures { result ≡ fault_place self }
-    {
+    fn place(self) -> Place {
         match self {
             RoomFault::WrongTag {
                 bidder,

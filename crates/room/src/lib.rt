@@ -2,6 +2,7 @@
 #![tactic(auto)]
 
 mod admission;
+mod conditions;
 mod faults;
 mod guard;
 mod lodging;
@@ -17,8 +18,9 @@ mod state;
 mod theorems;
 
 pub use faults::RoomFault;
+pub use opening::MOST_PAGE_BYTES;
 pub use register::RegisterEntry;
 pub use room::Room;
 pub use sheet::SheetEntry;
-pub use state::RoomState;
+pub use state::{MOST_BIDDERS, RoomState};
 pub use theorems::{promise_stands, worked_examples_stand};

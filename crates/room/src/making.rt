@@ -1,13 +1,14 @@
 // Making of rooms, in a place that the caller holds.
-ghost use Rattle.std.specs.Prelude.{◌≡◌, ◌^◌, ◌<◌, ◌≤◌, true, ◌++◌, map, length, drop};
+ghost use Rattle.std.specs.Prelude.{◌≡◌, ◌^◌, ◌<◌, ◌≤◌, ◌++◌, map, length, drop};
 ghost use Rattle.std.specs.List.{AllByRecursion};
 ghost use Rattle.room.specs.Slots.{new_slot};
-ghost use Rattle.room.specs.Making.{Made, Fresh, lawful_register, rises_from};
+ghost use Rattle.room.specs.Making.{Made, Fresh, lawful_register};
 
 use crate::faults::RoomFault;
 use crate::register::RegisterEntry;
 use crate::slots::{Phase, Slot};
-use crate::state::{MOST_BIDDERS, MOST_TERMS_BYTES, RoomState};
+use crate::state::{MOST_BIDDERS, RoomState};
+use envelope::MOST_TERMS_BYTES;
 
 impl RoomState {
     // A fresh place: a closed room of lot 0 without bidders.
@@ -57,36 +58,19 @@ impl RoomState {
 // Writes a new slot for each entry of the register.
 fn enroll(slots: &mut [Slot], register: &[RegisterEntry])
     requires { length register.now ≤ length slots.old }
-    ensures { slots.new ≡ map new_slot register.now ++ drop (length register.now) slots.old }
+    ensures slots { slots.new ≡ map new_slot register.now ++ drop (length register.now) slots.old }
+    ensures fit { AllByRecursion (λ x. x.bidder < 2 ^ 32) register.now }
 {
-    for i in 0..register.len() {
-        slots[i] = Slot::new(&register[i]);
+    // Indexed, since a proof knows nothing of slots that `iter_mut` has lent to a `zip`.
+    for (i, entry) in register.iter().enumerate() {
+        slots[i] = Slot::new(entry);
     }
 }
 
 // Whether a register has 1 to 64 entries by strictly rising bidder.
 fn is_lawful(register: &[RegisterEntry]) -> bool
-    ensures answer { result ≡ lawful_register register.now }
-    ensures fit { result ≡ true → AllByRecursion (λ x. x.bidder < 2 ^ 32) register.now }
+    ensures { result ≡ lawful_register register.now }
 {
-    if register.len() < 1 || register.len() > MOST_BIDDERS {
-        return false;
-    }
-    rises(register)
-}
-
-// Whether the bidders rise strictly.
-fn rises(register: &[RegisterEntry]) -> bool
-    ensures answer { result ≡ rises_from 0 register.now }
-    ensures fit { result ≡ true → AllByRecursion (λ x. x.bidder < 2 ^ 32) register.now }
-{
-    let mut least = 0u64;
-    for i in 0..register.len() {
-        let bidder = register[i].bidder() as u64;
-        if bidder < least {
-            return false;
-        }
-        least = bidder + 1;
-    }
-    true
+    (1..=MOST_BIDDERS).contains(&register.len())
+        && register.is_sorted_by(|a, b| a.bidder < b.bidder)
 }

@@ -8,16 +8,17 @@ ghost use Rattle.room.specs.Opening.{written_over};
 ghost use Rattle.room.specs.Slots.{sheet_in};
 ghost use Rattle.room.specs.declared.faults.RoomFault.TheVariants.{Places};
 
+use crate::conditions::Conditions;
 use crate::faults::RoomFault;
-use crate::offers::amount_of;
 use crate::printing::put_page;
 use crate::sheet::SheetEntry;
-use crate::slots::{LETTER_BYTES, Slot};
+use crate::slots::Slot;
 use crate::state::{MOST_BIDDERS, RoomState};
 use engine::Engine;
+use envelope::LETTER_BYTES;
 
 // The longest page: the line of names and 64 lines of 35 bytes.
-const MOST_PAGE_BYTES: usize = 2258;
+pub const MOST_PAGE_BYTES: usize = 2258;
 
 // Refuses places that have not their sizes.
 pub(crate) fn check_places(sheet: usize, page: usize, work: usize) -> Result<(), RoomFault>
@@ -30,7 +31,8 @@ pub(crate) fn check_places(sheet: usize, page: usize, work: usize) -> Result<(),
 }
 
 impl RoomState {
-    // Fills the sheet and writes the page, and answers the length of the page.
+    // Fills the sheet and writes the page, and answers the length of the page. The work area is passed on as the slice that the caller lent,
+    // since making an array of it would test its length once more.
     pub(crate) fn print<E: Engine>(
         &self,
         engine: &E,
@@ -45,36 +47,34 @@ impl RoomState {
         ensures sheet { sheet.new ≡ written_over (sheet_of (contents (E.kind engine.now) self.now)) sheet.old }
         ensures page { page.new ≡ written_over (page_of_room (contents (E.kind engine.now) self.now)) page.old }
     {
-        let terms = &self.terms[..self.terms_bytes];
-        let slots = &self.slots[..self.count];
-        let n = fill_sheet(engine, self.lot, terms, slots, sheet, work);
-        put_page(page, self.lot, &sheet[0..n])
+        let conditions = Conditions {
+            engine,
+            lot: self.lot,
+            terms: &self.terms[..self.terms_bytes],
+        };
+        let n = conditions.fill_sheet(&self.slots[..self.count], sheet, work);
+        put_page(page, self.lot, &sheet[..n])
     }
 }
 
-// Lists on the sheet each bidder whose amount is above 0, and answers how many there are.
-fn fill_sheet<E: Engine>(
-    engine: &E,
-    lot: u32,
-    terms: &[u8],
-    slots: &[Slot],
-    sheet: &mut [SheetEntry],
-    work: &mut [u8],
-) -> usize
-    requires terms { length terms.now ≤ 64 }
-    requires sheet { length slots.now ≤ length sheet.old }
-    requires work { length work.old ≡ 64 }
-    ensures count { result ≡ length (sheet_in (E.kind engine.now) lot terms.now slots.now) }
-    ensures sheet { sheet.new ≡ written_over (sheet_in (E.kind engine.now) lot terms.now slots.now) sheet.old }
-    ensures fit { (lot < 2 ^ 32) × AllByRecursion (λ x. x.bidder < 2 ^ 32) slots.now }
-{
-    let mut n = 0;
-    for i in 0..slots.len() {
-        let bidder = slots[i].bidder();
-        let amount = amount_of(engine, lot, terms, &slots[i], work);
-        n = put_entry(sheet, n, SheetEntry { bidder, amount });
+impl<E: Engine> Conditions<'_, E> {
+    // Lists on the sheet each bidder whose amount is above 0, and answers how many there are.
+    fn fill_sheet(&self, slots: &[Slot], sheet: &mut [SheetEntry], work: &mut [u8]) -> usize
+        requires sheet { length slots.now ≤ length sheet.old }
+        requires work { length work.old ≡ 64 }
+        ensures count { result ≡ length (sheet_in (E.kind self.now.engine.now) self.now.lot self.now.terms.now slots.now) }
+        ensures sheet { sheet.new ≡ written_over (sheet_in (E.kind self.now.engine.now) self.now.lot self.now.terms.now slots.now) sheet.old }
+        ensures fit { AllByRecursion (λ x. x.bidder < 2 ^ 32) slots.now }
+    {
+        // The count goes from call to call, since only an amount above 0 takes a place of the sheet.
+        let mut n = 0;
+        for slot in slots {
+            let bidder = slot.bidder();
+            let amount = self.amount_of(slot, work);
+            n = put_entry(sheet, n, SheetEntry { bidder, amount });
+        }
+        n
     }
-    n
 }
 
 // Puts an entry whose amount is above 0 at the end of the sheet, and answers where the sheet ends.

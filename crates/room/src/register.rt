@@ -13,6 +13,7 @@ pub struct RegisterEntry {
 }
 
 impl RegisterEntry {
+    // Called where a proof needs the range of the number: it has that of a result, and not that of a field that is read through a reference.
     pub(crate) fn bidder(&self) -> u32
         ensures { result ≡ self.now.bidder }
     {

@@ -11,7 +11,8 @@ pub struct SheetEntry {
     pub amount: u64,
 }
 
-// A sheet is ordered by bidder.
+// A sheet is ordered by bidder, as a register is. One impl for both would need a trait for having a bidder, which would have to be implemented
+// twice.
 impl Entry for SheetEntry {
     ghost compares = { by_key (λ x. x.bidder) };
 

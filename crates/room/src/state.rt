@@ -2,13 +2,13 @@
 ghost use Rattle.std.specs.Prelude.{◌≤◌};
 
 use crate::slots::{Phase, Slot};
+use envelope::MOST_TERMS_BYTES;
 
-// The most bytes of terms, and the most bidders of a register.
-pub(crate) const MOST_TERMS_BYTES: usize = 64;
-
-pub(crate) const MOST_BIDDERS: usize = 64;
+// The most bidders of a register.
+pub const MOST_BIDDERS: usize = 64;
 
 // The terms are the first `terms_bytes` of their array, and the slots in use the first `count`, in the register's order.
+// These are arrays with counts and no Vec, since this layer has no heap: the caller lends the place whole, with room for the most of each.
 #[derive(Drop)]
 pub struct RoomState {
     pub(crate) phase: Phase,

@@ -1,10 +1,9 @@
 // Envelopes of bids, as bidders make them.
+use anyhow::anyhow;
 use cipher::{seal, tag_bytes};
 use engine::Engine;
-use envelope::{EnvelopeFault, Pen, head_of, seal_bid};
-
-// The longest envelope of all variants.
-pub const MOST_BYTES: usize = 92;
+use envelope::{EnvelopeFault, HeadFields, LETTER_BYTES, Pen, head_of, seal_bid};
+use std::alloc::Global;
 
 // The key of a bidder.
 pub fn key_of(bidder: u32) -> [u8; 16] {
@@ -24,34 +23,23 @@ pub fn bid<E: Engine>(
     seal_bid(engine, &key_of(bidder), head, amount, note, place)
 }
 
-// Seals an unlawful letter, all bytes of which are 255, under a head written by hand. Its tag is right.
+// The envelope of an unlawful letter, all bytes of which are 255, under a head that no pen gave. Its tag is right.
 pub fn unlawful<E: Engine>(
+    alloc: Global,
     engine: &E,
-    lot: u32,
-    bidder: u32,
-    sequence: u32,
+    fields: HeadFields,
     terms: &[u8],
-    place: &mut [u8],
-) {
-    let t = tag_bytes(engine.variant());
-    let head = head_of(lot, bidder, sequence);
-    let letter = [255u8; 64];
-    let mut sealed = [0u8; 64];
-    let mut tag = [0u8; 16];
-    let tag = &mut tag[0..t];
-    let granted = seal(
-        engine,
-        &key_of(bidder),
-        &head,
-        terms,
-        &letter,
-        &mut sealed,
-        tag,
-    );
-    if granted.is_ok() && place.len() == 76 + tag.len() {
-        let n = place.len();
-        place[0..12].copy_from_slice(&head);
-        place[12..76].copy_from_slice(&sealed);
-        place[76..n].copy_from_slice(tag);
+) -> anyhow::Result<Vec<u8>> {
+    let head = head_of(fields);
+    let letter = [255u8; LETTER_BYTES];
+    let mut sealed = [0u8; LETTER_BYTES];
+    let mut tag = vec![in alloc; 0u8; tag_bytes(engine.variant())]?;
+    let key = key_of(fields.bidder);
+    if seal(engine, &key, &head, terms, &letter, &mut sealed, &mut tag).is_err() {
+        return Err(anyhow!("an unlawful letter is not sealed"));
     }
+    let mut envelope = Vec::from_slice(alloc, &head)?;
+    envelope.extend_from_slice(&sealed)?;
+    envelope.extend_from_slice(&tag)?;
+    Ok(envelope)
 }

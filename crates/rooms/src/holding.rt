@@ -1,18 +1,14 @@
 // The calls of a sale, and what they answer.
-use crate::bidding::{MOST_BYTES, bid, key_of, unlawful};
+use crate::bidding::{bid, key_of, unlawful};
 use engine::Engine;
-use envelope::{Pen, envelope_bytes};
-use room::{RegisterEntry, Room, RoomFault, RoomState, SheetEntry};
+use envelope::{HeadFields, LETTER_BYTES, Pen, envelope_bytes};
+use fault::Fault;
+use room::{MOST_BIDDERS, MOST_PAGE_BYTES, RegisterEntry, Room, RoomFault, RoomState, SheetEntry};
+use std::fmt;
 
 const LOT: u32 = 17;
 
 const TERMS: &[u8] = b"bows";
-
-const PAGE_BYTES: usize = 2258;
-
-const SHEET_PLACES: usize = 64;
-
-const WORK_BYTES: usize = 64;
 
 fn entry(bidder: u32) -> RegisterEntry {
     RegisterEntry {
@@ -21,22 +17,22 @@ fn entry(bidder: u32) -> RegisterEntry {
     }
 }
 
-// What a call answers: its number, or the number of its refusal.
-fn tell(rt: &HostRuntime, call: &str, answer: Result<u32, RoomFault>) -> anyhow::Result<()> {
+// What a call answers, or the number of its refusal.
+fn tell<T: fmt::Display + Drop>(
+    rt: &HostRuntime,
+    call: &str,
+    answer: Result<T, RoomFault>,
+) -> anyhow::Result<()> {
     match answer {
-        Ok(n) => println!(rt; "{call}: {n}")?,
+        Ok(answer) => println!(rt; "{call}: {answer}")?,
         Err(f) => println!(rt; "{call}: refused with {}", f.number())?,
     }
     Ok(())
 }
 
-// What a call answers that has no number.
-fn tell_done(rt: &HostRuntime, call: &str, answer: Result<(), RoomFault>) -> anyhow::Result<()> {
-    match answer {
-        Ok(()) => println!(rt; "{call}: done")?,
-        Err(f) => println!(rt; "{call}: refused with {}", f.number())?,
-    }
-    Ok(())
+// What a call answers that has nothing to say but that it is done.
+fn done(answer: Result<(), RoomFault>) -> Result<&'static str, RoomFault> {
+    answer.map(|()| "done")
 }
 
 // Seals a bid with the pen and lodges it.
@@ -47,11 +43,9 @@ fn lodge_bid<E: Engine + Copy>(
     bidder: u32,
     amount: u64,
 ) -> anyhow::Result<()> {
-    let n = envelope_bytes(room.engine.variant());
-    let mut place = [0u8; MOST_BYTES];
-    let place = &mut place[0..n];
-    match bid(&room.engine, pen, bidder, amount, b"", place) {
-        Ok(()) => tell(rt, "lodging", room.lodge(place)),
+    let mut place = vec![in rt.alloc(); 0u8; envelope_bytes(room.engine.variant())]?;
+    match bid(&room.engine, pen, bidder, amount, b"", &mut place) {
+        Ok(()) => tell(rt, "lodging", room.lodge(&place)),
         Err(f) => {
             println!(rt; "sealing: refused with {}", f.number())?;
             Ok(())
@@ -64,14 +58,14 @@ fn print_page<E: Engine + Copy>(rt: &HostRuntime, room: &mut Room<E>) -> anyhow:
     let mut sheet = [SheetEntry {
         bidder: 0,
         amount: 0,
-    }; SHEET_PLACES];
-    let mut page = [0u8; PAGE_BYTES];
-    let mut work = [0u8; WORK_BYTES];
+    }; MOST_BIDDERS];
+    let mut page = [0u8; MOST_PAGE_BYTES];
+    let mut work = [0u8; LETTER_BYTES];
     match room.open(&mut sheet, &mut page, &mut work) {
         Ok(n) => {
-            for i in 0..n.min(PAGE_BYTES) {
-                let c = char::from(page[i]);
-                print!(rt; "{c}")?;
+            // A page is bytes, and printed as such.
+            for byte in page.iter().take(n) {
+                print!(rt; "{}", char::from(*byte))?;
             }
         }
         Err(f) => println!(rt; "opening: refused with {}", f.number())?,
@@ -90,8 +84,8 @@ pub fn hold_sale<E: Engine + Copy>(
         inner: place,
         engine,
     };
-    tell_done(rt, "closing a fresh place", room.close())?;
-    tell_done(rt, "making", room.make(LOT, TERMS, &register))?;
+    tell(rt, "closing a fresh place", done(room.close()))?;
+    tell(rt, "making", done(room.make(LOT, TERMS, &register)))?;
     let Ok(mut pen) = Pen::new(LOT, TERMS) else {
         return Ok(());
     };
@@ -104,7 +98,7 @@ pub fn hold_sale<E: Engine + Copy>(
     lodge_bid(rt, &mut room, &mut pen, 7, 1)?;
     lodge_refused(rt, &mut room)?;
     print_page(rt, &mut room)?;
-    tell_done(rt, "closing", room.close())?;
+    tell(rt, "closing", done(room.close()))?;
     lodge_bid(rt, &mut room, &mut pen, 8, 999_999)?;
     print_page(rt, &mut room)?;
     print_page(rt, &mut room)
@@ -112,18 +106,33 @@ pub fn hold_sale<E: Engine + Copy>(
 
 // An unlawful letter with a right tag, the same again, a changed tag, another lot, and a short envelope.
 fn lodge_refused<E: Engine + Copy>(rt: &HostRuntime, room: &mut Room<E>) -> anyhow::Result<()> {
-    let n = envelope_bytes(room.engine.variant());
-    let mut place = [0u8; MOST_BYTES];
-    let place = &mut place[0..n];
-    unlawful(&room.engine, LOT, 4, 20, TERMS, place);
-    tell(rt, "lodging an unlawful letter", room.lodge(place))?;
-    tell(rt, "lodging it again", room.lodge(place))?;
-    unlawful(&room.engine, LOT, 4, 21, TERMS, place);
-    place[n - 1] ^= 1;
-    tell(rt, "lodging with a wrong tag", room.lodge(place))?;
-    unlawful(&room.engine, LOT + 1, 4, 22, TERMS, place);
-    tell(rt, "lodging for another lot", room.lodge(place))?;
-    tell(rt, "lodging a short envelope", room.lodge(&place[0..n - 1]))?;
+    let alloc = rt.alloc();
+    let head = HeadFields {
+        lot: LOT,
+        bidder: 4,
+        sequence: 20,
+    };
+    let first = unlawful(alloc, &room.engine, head, TERMS)?;
+    tell(rt, "lodging an unlawful letter", room.lodge(&first))?;
+    tell(rt, "lodging it again", room.lodge(&first))?;
+    let next = HeadFields {
+        sequence: 21,
+        ..head
+    };
+    let mut changed = unlawful(alloc, &room.engine, next, TERMS)?;
+    if let Some(last) = changed.last_mut() {
+        *last ^= 1;
+    }
+    tell(rt, "lodging with a wrong tag", room.lodge(&changed))?;
+    let elsewhere = HeadFields {
+        lot: LOT + 1,
+        sequence: 22,
+        ..head
+    };
+    let mut other = unlawful(alloc, &room.engine, elsewhere, TERMS)?;
+    tell(rt, "lodging for another lot", room.lodge(&other))?;
+    let _last = other.pop();
+    tell(rt, "lodging a short envelope", room.lodge(&other))?;
     tell(rt, "asking for bidder 4", room.ask(4))?;
     tell(rt, "asking for bidder 5", room.ask(5))?;
     tell(rt, "asking for bidder 6", room.ask(6))
@@ -139,18 +148,19 @@ pub fn hold_again<E: Engine + Copy>(
         inner: place,
         engine,
     };
-    tell_done(rt, "making without a register", room.make(18, b"", &[]))?;
-    tell_done(
+    tell(
         rt,
-        "making again",
-        room.make(18, b"", &[entry(2), entry(3)]),
+        "making without a register",
+        done(room.make(18, b"", &[])),
     )?;
+    let made = room.make(18, b"", &[entry(2), entry(3)]);
+    tell(rt, "making again", done(made))?;
     tell(rt, "asking for bidder 3", room.ask(3))?;
     let Ok(mut pen) = Pen::new(18, b"") else {
         return Ok(());
     };
     lodge_bid(rt, &mut room, &mut pen, 2, 999_999_999_999)?;
-    tell_done(rt, "closing", room.close())?;
-    tell_done(rt, "closing again", room.close())?;
+    tell(rt, "closing", done(room.close()))?;
+    tell(rt, "closing again", done(room.close()))?;
     print_page(rt, &mut room)
 }

@@ -12,8 +12,8 @@ use interleaved::Interleaved;
 use room::{RoomState, promise_stands, worked_examples_stand};
 
 // Two sales of one engine in one place: the second makes the room anew.
-fn run_engine<E: Engine + Copy>(rt: &HostRuntime, name: &str, engine: E) -> anyhow::Result<()> {
-    println!(rt; "{name}")?;
+fn run_engine<E: Engine + Copy>(rt: &HostRuntime, engine: E) -> anyhow::Result<()> {
+    println!(rt; "{}", engine.variant())?;
     let mut place = RoomState::fresh();
     hold_sale(rt, &mut place, engine)?;
     hold_again(rt, &mut place, engine)
@@ -22,9 +22,9 @@ fn run_engine<E: Engine + Copy>(rt: &HostRuntime, name: &str, engine: E) -> anyh
 fn run(rt: &HostRuntime) -> anyhow::Result<()> {
     promise_stands();
     worked_examples_stand();
-    run_engine(rt, "Dumbo", Circuit::Dumbo)?;
-    run_engine(rt, "Jumbo", Circuit::Jumbo)?;
-    run_engine(rt, "Delirium", Interleaved)
+    run_engine(rt, Circuit::Dumbo)?;
+    run_engine(rt, Circuit::Jumbo)?;
+    run_engine(rt, Interleaved)
 }
 
 fn main(rt: HostRuntime) -> anyhow::Result<()> {

@@ -1,2 +1,0 @@
-mod Padding
-mod Reading

@@ -2,9 +2,8 @@
 // and prints how many agree. A first argument N has every N-th record of each file tried, and a second only one engine.
 #![tactic(auto)]
 
-ghost use Rattle.std.specs.Prelude.{◌≡◌, ℕ, ◌<◌, IfOk};
+ghost use Rattle.std.specs.Prelude.{◌≡◌, ℕ, ◌<◌};
 
-mod hex;
 mod published;
 mod records;
 mod tallies;
@@ -17,6 +16,7 @@ use engine::{Engine, Plain, Variant, permutation_laws_stand};
 use interleaved::Interleaved;
 use published::{try_keccak, try_spongent};
 use records::{Answers, read_answers};
+use std::alloc::Global;
 use std::{env, fs};
 use tallies::Tally;
 use trials::agrees;
@@ -28,13 +28,10 @@ const CIRCUIT: &str = "circuit";
 
 const INTERLEAVED: &str = "interleaved";
 
-fn name_of(variant: Variant) -> &'static str {
-    match variant {
-        Variant::Dumbo => "Dumbo",
-        Variant::Jumbo => "Jumbo",
-        Variant::Delirium => "Delirium",
-    }
-}
+// What is published of the permutations.
+const KECCAK: &str = "published values of Keccak-f[200]";
+
+const SPONGENT: &str = "published value of SPONGENT-160/160/16";
 
 fn file_of(variant: Variant) -> &'static str {
     match variant {
@@ -50,6 +47,7 @@ fn file_of(variant: Variant) -> &'static str {
 struct Asked {
     step: usize,
     engine: Option<String>,
+    ghost above: { 0 < step },
 }
 
 impl Asked {
@@ -63,9 +61,7 @@ impl Asked {
 }
 
 // Reads the arguments. Without them every record is tried by every engine.
-fn asked_for(rt: &HostRuntime) -> anyhow::Result<Asked>
-    ensures { IfOk result (λ asked. 0 < asked.step) }
-{
+fn asked_for(rt: &HostRuntime) -> anyhow::Result<Asked> {
     let mut words = env::args(rt)?;
     let _program = words.next();
     let Some(word) = words.next() else {
@@ -84,30 +80,20 @@ fn asked_for(rt: &HostRuntime) -> anyhow::Result<Asked>
     })
 }
 
-// Runs the published values of Keccak-f[200] through an engine of Delirium.
-fn run_keccak<E: Engine>(
+// Runs published values through an engine of their permutation, by a trial that counts those met.
+fn run_values<E: Engine, F: FnOnce(Global, &E) -> Tally>(
     rt: &HostRuntime,
     asked: &Asked,
+    values: &str,
     name: &str,
     engine: &E,
-) -> anyhow::Result<()> {
+    trial: F,
+) -> anyhow::Result<()>
+    requires { F.IsAlwaysCallable trial }
+{
     if asked.wants(name) {
-        let tally = try_keccak(rt.alloc(), engine);
-        println!(rt; "published values of Keccak-f[200], {name} engine: {tally}")?;
-    }
-    Ok(())
-}
-
-// Runs the published value of SPONGENT-160/160/16 through an engine of Jumbo.
-fn run_spongent<E: Engine>(
-    rt: &HostRuntime,
-    asked: &Asked,
-    name: &str,
-    engine: &E,
-) -> anyhow::Result<()> {
-    if asked.wants(name) {
-        let tally = try_spongent(rt.alloc(), engine);
-        println!(rt; "published value of SPONGENT-160/160/16, {name} engine: {tally}")?;
+        let tally = trial(rt.alloc(), engine);
+        println!(rt; "{values}, {name} engine: {tally}")?;
     }
     Ok(())
 }
@@ -115,10 +101,12 @@ fn run_spongent<E: Engine>(
 // Runs the published values through each engine that has their permutation.
 fn run_published(rt: &HostRuntime, asked: &Asked) -> anyhow::Result<()> {
     let (delirium, jumbo) = (Variant::Delirium, Variant::Jumbo);
-    run_keccak(rt, asked, PLAIN, &Plain { variant: delirium })?;
-    run_keccak(rt, asked, INTERLEAVED, &Interleaved)?;
-    run_spongent(rt, asked, PLAIN, &Plain { variant: jumbo })?;
-    run_spongent(rt, asked, CIRCUIT, &Circuit::Jumbo)
+    let plain = Plain { variant: delirium };
+    run_values(rt, asked, KECCAK, PLAIN, &plain, try_keccak)?;
+    run_values(rt, asked, KECCAK, INTERLEAVED, &Interleaved, try_keccak)?;
+    let plain = Plain { variant: jumbo };
+    run_values(rt, asked, SPONGENT, PLAIN, &plain, try_spongent)?;
+    run_values(rt, asked, SPONGENT, CIRCUIT, &Circuit::Jumbo, try_spongent)
 }
 
 // Tries records by an engine, and tells each that does not agree.
@@ -131,7 +119,7 @@ fn try_records<E: Engine>(
 ) -> anyhow::Result<Tally>
     requires { 0 < step }
 {
-    let variant = name_of(engine.variant());
+    let variant = engine.variant();
     let mut tally = Tally::new();
     for record in answers.records.iter().step_by(step) {
         let agreed = agrees(rt.alloc(), engine, record)?;
@@ -156,7 +144,7 @@ fn run_engine<E: Engine>(
     requires { 0 < step }
 {
     if asked.wants(name) {
-        let variant = name_of(engine.variant());
+        let variant = engine.variant();
         let tally = try_records(rt, step, name, engine, answers)?;
         println!(rt; "{variant}, {name} engine: {tally}")?;
     }
@@ -164,15 +152,12 @@ fn run_engine<E: Engine>(
 }
 
 // Reads the records of a variant and runs them through each of its engines.
-fn run_variant(rt: &HostRuntime, asked: &Asked, variant: Variant) -> anyhow::Result<()>
-    requires { 0 < asked.now.step }
-{
+fn run_variant(rt: &HostRuntime, asked: &Asked, variant: Variant) -> anyhow::Result<()> {
     let text = fs::read_to_string(rt, file_of(variant))?;
     let answers = read_answers(rt.alloc(), variant, text.as_str())?;
-    let name = name_of(variant);
     let read = answers.records.len();
     let unreadable = answers.unreadable;
-    println!(rt; "{name}: {read} records read, {unreadable} could not be read")?;
+    println!(rt; "{variant}: {read} records read, {unreadable} could not be read")?;
     run_engine(rt, asked, asked.step, PLAIN, &Plain { variant }, &answers)?;
     match variant {
         Variant::Dumbo => run_engine(rt, asked, 1, CIRCUIT, &Circuit::Dumbo, &answers),

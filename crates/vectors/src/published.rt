@@ -1,8 +1,7 @@
 // The published values of the permutations: Keccak-f[200] of zeros and of that again, and a hash by SPONGENT-160/160/16,
 // whose permutation is Jumbo's.
-ghost use Rattle.std.specs.Prelude.{◌≡◌, [], ◌∷◌, ◌++◌, slice_index};
+ghost use Rattle.std.specs.Prelude.{◌≡◌, ◌≤◌, [], ◌∷◌, ◌++◌, length, take};
 
-use crate::hex::bytes_of_hex;
 use crate::tallies::Tally;
 use engine::{Engine, EngineFault};
 use std::alloc::Global;
@@ -21,12 +20,9 @@ const MESSAGE: &str = "Sponge + Present = Spongent";
 
 const DIGEST: &str = "13188A4917EA29E258362C047B9BF00C22B5FE91";
 
-// Whether these are the bytes that a text writes.
-fn are_written(heap: Global, bytes: &[u8], text: &str) -> bool {
-    match bytes_of_hex(heap, text) {
-        Ok(written) => bytes == written.as_slice(),
-        Err(_) => false,
-    }
+// Whether these are the bytes that hexadecimal digits write.
+fn are_written(heap: Global, bytes: &[u8], digits: &str) -> bool {
+    hex::decode(heap, digits).is_ok_and(|written| written.as_slice() == bytes)
 }
 
 // Has an engine of Delirium permute zeros, and what comes of them once more, and counts the published values met.
@@ -40,31 +36,44 @@ pub fn try_keccak<E: Engine>(heap: Global, engine: &E) -> Tally {
     tally
 }
 
-// Byte i of a message that is followed by 80 hex and zeros.
-fn padded_byte(message: &[u8], i: usize) -> u8
-    ensures { result ≡ slice_index (message.now ++ 128 ∷ []) i }
+type State = [u8; SPONGENT_BYTES];
+
+// Absorbs two bytes into the first two of the state.
+fn absorb<E: Engine>(
+    engine: &E,
+    state: &mut State,
+    first: u8,
+    second: u8,
+) -> Result<(), EngineFault> {
+    state[0] ^= first;
+    state[1] ^= second;
+    engine.one(state)
+}
+
+// The last two bytes absorbed: what the pairs leave of a message, 80 hex, and a zero where there is room.
+fn last_pair(rest: &[u8]) -> [u8; 2]
+    requires { length rest.now ≤ 1 }
+    ensures { result ≡ take 2 (rest.now ++ 128 ∷ 0 ∷ []) }
 {
-    if i < message.len() {
-        message[i]
-    } else if i == message.len() {
-        0x80
-    } else {
-        0
+    match rest {
+        [last] => [*last, 0x80],
+        _ => [0x80, 0],
     }
 }
 
-// The hash of a message: two bytes at a time are absorbed into the first two of the state, and squeezed from them.
+// The hash of a message, followed by 80 hex and zeros: two bytes at a time are absorbed into the state, and squeezed from it.
 fn hash<E: Engine>(engine: &E, message: &[u8]) -> Result<[u8; DIGEST_BYTES], EngineFault> {
     let mut state = [0u8; SPONGENT_BYTES];
-    for i in 0..message.len() / 2 + 1 {
-        state[0] ^= padded_byte(message, 2 * i);
-        state[1] ^= padded_byte(message, 2 * i + 1);
-        engine.one(&mut state)?;
+    let pairs = message.chunks_exact(2);
+    let rest = pairs.remainder();
+    for pair in pairs {
+        absorb(engine, &mut state, pair[0], pair[1])?;
     }
+    let [first, second] = last_pair(rest);
+    absorb(engine, &mut state, first, second)?;
     let mut digest = [0u8; DIGEST_BYTES];
-    for i in 0..DIGEST_BYTES / 2 {
-        digest[2 * i] = state[0];
-        digest[2 * i + 1] = state[1];
+    for pair in digest.chunks_exact_mut(2) {
+        pair.copy_from_slice(&state[..2]);
         engine.one(&mut state)?;
     }
     Ok(digest)
@@ -73,9 +82,7 @@ fn hash<E: Engine>(engine: &E, message: &[u8]) -> Result<[u8; DIGEST_BYTES], Eng
 // Hashes the message by an engine of Jumbo, and counts whether the published digest is met.
 pub fn try_spongent<E: Engine>(heap: Global, engine: &E) -> Tally {
     let mut tally = Tally::new();
-    match hash(engine, MESSAGE.as_bytes()) {
-        Ok(digest) => tally.count(are_written(heap, &digest, DIGEST)),
-        Err(_) => tally.count(false),
-    }
+    let digest = hash(engine, MESSAGE.as_bytes());
+    tally.count(digest.is_ok_and(|digest| are_written(heap, &digest, DIGEST)));
     tally
 }

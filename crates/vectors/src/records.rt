@@ -2,9 +2,9 @@
 ghost use Rattle.std.specs.Prelude.{◌≡◌, ◌++◌, IfOk, vec_len};
 ghost use Rattle.cipher.specs.Mode.{tag_size};
 
-use crate::hex::{HexFault, bytes_of_hex};
 use cipher::tag_bytes;
 use engine::Variant;
+use hex::FromHexError;
 use std::alloc::{AllocError, Global};
 
 // A known answer: a text, what it is sealed under, and the sealed text and tag that come of it.
@@ -35,9 +35,12 @@ pub enum RecordFault {
     Memory,
 }
 
-impl From<HexFault> for RecordFault {
-    fn from(_fault: HexFault) -> RecordFault {
-        RecordFault::Value
+impl From<FromHexError> for RecordFault {
+    fn from(fault: FromHexError) -> RecordFault {
+        match fault {
+            FromHexError::OutOfMemory => RecordFault::Memory,
+            _ => RecordFault::Value,
+        }
     }
 }
 
@@ -49,9 +52,7 @@ impl From<AllocError> for RecordFault {
 
 // The value of a line that begins with the name of its field.
 fn value<'a>(line: Option<&'a str>, name: &str) -> Result<&'a str, RecordFault> {
-    let Some(line) = line else {
-        return Err(RecordFault::Line);
-    };
+    let line = line.ok_or(RecordFault::Line)?;
     line.strip_prefix(name).ok_or(RecordFault::Line)
 }
 
@@ -64,11 +65,11 @@ impl Record {
         let Ok(number) = value(lines.next(), "Count = ")?.parse::<usize>() else {
             return Err(RecordFault::Number);
         };
-        let key = bytes_of_hex(heap, value(lines.next(), "Key = ")?)?;
-        let nonce = bytes_of_hex(heap, value(lines.next(), "Nonce = ")?)?;
-        let text = bytes_of_hex(heap, value(lines.next(), "PT = ")?)?;
-        let associated = bytes_of_hex(heap, value(lines.next(), "AD = ")?)?;
-        let both = bytes_of_hex(heap, value(lines.next(), "CT = ")?)?;
+        let key = hex::decode(heap, value(lines.next(), "Key = ")?)?;
+        let nonce = hex::decode(heap, value(lines.next(), "Nonce = ")?)?;
+        let text = hex::decode(heap, value(lines.next(), "PT = ")?)?;
+        let associated = hex::decode(heap, value(lines.next(), "AD = ")?)?;
+        let both = hex::decode(heap, value(lines.next(), "CT = ")?)?;
         if lines.next().is_some() {
             return Err(RecordFault::Long);
         }

@@ -1,6 +1,8 @@
-use Rattle.std.proofs.Common.{◌≡◌, ◌^◌, ◌<◌, take}
+use Rattle.std.proofs.Common.{◌≡◌, ◌^◌, ◌<◌, length, take}
 use Rattle.std.specs.Int.Digits.{number_from_digits}
 use Rattle.big_endian.proofs.number_of.Given as goal
 
-abbrev pub invariant-loop-i : goal.invariant-loop-i
-invariant-loop-i l = (l.n ≡ number_from_digits 256 (take l.i l.bytes)) × (l.n < 256 ^ l.i)
+-- the number of the bytes so far
+abbrev pub invariant-loop-b : goal.invariant-loop-b
+invariant-loop-b l =
+    (l.n ≡ number_from_digits 256 (take (length l.yielded) (take 16 l.bytes))) × (l.n < 256 ^ length l.yielded)

@@ -1,24 +1,31 @@
-use Rattle.std.proofs.Common.{◌+◌, ◌*◌, ◌≤◌, length, take, drop, sym, refl, ap, ◌∙◌, ap₂, add-zero, arith, rules}
-use Rattle.cipher.specs.Blocks.{summed, xored}
-use Rattle.cipher.proofs.StreamLaws.{summed_more, rows}
-use Rattle.cipher.proofs.GroupLaws.{same_width}
+use Rattle.std.proofs.Common.{◌≡◌, ◌*◌, ◌/◌, ◌<◌, length, take, drop, sym, ap, ◌∙◌, one-mul, arith}
+use Rattle.std.proofs.lemmas.Nat.{div_below}
+use Rattle.std.specs.Slice.Iter.{chunks_exact_rest}
+use Rattle.cipher.specs.Blocks.{summed}
+use Rattle.cipher.proofs.RoomLaws.{summed_rest}
 use Rattle.cipher.proofs.absorbing.add_blocks.Goals as goal
 
-pub loop-q-init : goal.loop-q-init
+pub loop-block-preserved : goal.loop-block-preserved
+loop-block-preserved c =
+    let n = c.args.n in
+    let x = c.in-Some.block.now in
+    let left = chunks_exact_rest c.next.new.self in
+    let step = c.in-Some.ensures.steps in
+    let long : length x ≡ n = step.1.1 ∙ c.loop-block.invariant.size in
+    record {
+      size = step.0 ∙ c.loop-block.invariant.size;
+      sum =
+          ap (λ b. summed (λ q. take n (drop (q * n) left)) (length left / n) 0 b) c.xor_into.ensures
+          ∙ sym (summed_rest n x left c.loop-block.sum c.requires long)
+          ∙ ap (λ z. summed (λ q. take n (drop (q * n) z)) (length z / n) 0 c.loop-block.sum) (sym step.1.0) ∙ c.loop-block.invariant.sum;
+    }
+
+pub returns : goal.returns
 unfolding summed
-loop-q-init c = refl
-
-pub slice_bounds-xor_into-end : goal.slice_bounds-xor_into-end
-slice_bounds-xor_into-end c =
-    let n = length c.args.sum.now in
-    let fits : c.loop-q.q * n + n ≤ c.args.count * n = rows c.loop-q.q c.args.count n (omega arith) in
-    search rules
-
-pub loop-q-preserved : goal.loop-q-preserved
-loop-q-preserved c =
-    let b = c.args.blocks.now in
-    let n = length c.args.sum.now in
-    let q = c.loop-q.q in
-    c.xor_into.ensures
-    ∙ ap₂ xored c.loop-q.invariant (ap (λ z. take z (drop (q * n) b)) (same_width (q * n) n) ∙ ap (λ z. take n (drop (z * n) b)) (sym (add-zero q)))
-    ∙ sym (summed_more (λ q. take n (drop (q * n) b)) q 0 c.args.sum.now)
+returns c =
+    let n = c.args.n in
+    let left = chunks_exact_rest c.loop-block.block-iterator in
+    let few : length left < n = rw c.loop-block.invariant.size at c.in-None.ensures.steps.1.0 in
+    let below : length left / n < 1 = div_below (length left) n 1 c.requires (omega (arith, one-mul n)) in
+    let none : 0 ≡ length left / n = omega arith in
+    ap (λ k. summed (λ q. take n (drop (q * n) left)) k 0 c.loop-block.sum) none ∙ c.loop-block.invariant.sum

@@ -1,12 +1,14 @@
-use Rattle.std.proofs.Common.{ℕ, length, refl, ap, ◌∙◌, rules}
+use Rattle.std.proofs.Common.{◌≡◌, ℕ, length, ap, ◌∙◌, rules}
+use Rattle.engine.specs.Permutation.{block_size}
 use Rattle.cipher.specs.Blocks.{padded}
 use Rattle.cipher.specs.Mode.{closed}
+use Rattle.cipher.proofs.MaskLaws.{wide_nonce}
 use Rattle.cipher.proofs.TagLaws.{start_whole}
 use Rattle.cipher.proofs.tagging.start_sum.Goals as goal
 
 pub returns : goal.returns
 returns c =
-    let n = length c.args.sum.now in
-    start_whole n c.args.nonce.now c.args.associated.now c.args.sum.now c.copy_from_slice.new.self c.load.new.block
-    c.requires.nonce c.requires.sum refl c.copy_from_slice.ensures.after
+    let n = block_size c.args.variant in
+    let twelve : length c.args.nonce.now ≡ 12 = search rules in
+    start_whole n c.args.nonce.now c.args.associated.now c.copy_from_slice.new.self c.load.new.block _ _ twelve (wide_nonce c.args.variant) c.copy_from_slice.ensures.after
     (c.load.ensures ∙ ap (λ (m : ℕ). padded m (closed c.args.associated.now)) (search rules))

@@ -1,12 +1,15 @@
-use Rattle.std.proofs.Common.{arith}
-use Rattle.cipher.proofs.XorLaws.{same_more, same_tested, other_length}
+use Rattle.std.proofs.Common.{◌≡◌, eqb, ap, ◌∙◌, fold, rules, tests, arith}
+use Rattle.std.specs.List.{zip}
+use Rattle.std.proofs.lemmas.Iterator.{YieldsList-from_zip, YieldsList-from_slice}
+use Rattle.std.proofs.lemmas.Iterator.Consumers.{fold_from_yields_List}
+use Rattle.cipher.proofs.XorLaws.{differing, same_tested, other_length}
 use Rattle.cipher.proofs.xor.equal.Goals as goal
 
 pub returns-then-a-b : goal.returns-then-a-b
 returns-then-a-b c = other_length c.args.a.now c.args.b.now c.if-a-b.true
 
-pub loop-k-preserved : goal.loop-k-preserved
-loop-k-preserved c = same_more c.loop-k.d c.loop-k.k c.args.a.now c.args.b.now c.loop-k.invariant
-
 pub returns : goal.returns
-returns c = same_tested c.loop-k.d c.loop-k.k c.args.a.now c.args.b.now (omega arith) (omega arith) c.loop-k.invariant
+returns c =
+    let r : c.fold.result ≡ fold differing 0 (zip c.args.a.now c.args.b.now) =
+    fold_from_yields_List _ differing 0 c.fold.result c.fold.ensures.ran (YieldsList-from_zip (YieldsList-from_slice c.args.a.now (cc)) (YieldsList-from_slice c.args.b.now (cc))) (λ a x b q k. search (rules, tests)) in
+    ap (λ z. eqb z 0) r ∙ same_tested c.args.a.now c.args.b.now (omega arith)

@@ -1,17 +1,18 @@
-use Rattle.std.proofs.Common.{◌≡◌, ℕ, ◌+◌, ◌*◌, ◌<◌, ap, ◌∙◌, arith}
+use Rattle.std.proofs.Common.{◌≡◌, ℕ, ◌+◌, ◌*◌, ◌/◌, ◌<◌, length, arith}
 use Rattle.engine.specs.Bits.{bit_of}
-use Rattle.circuit.specs.Planes.{of_block, one_at, word_bit}
+use Rattle.circuit.specs.Planes.{of_block, part, word_bit}
 use Rattle.circuit.proofs.Fours.{by_four}
 use Rattle.circuit.proofs.Octets.{loaded}
+use Rattle.circuit.proofs.Parts.{within, part_length}
 use Rattle.circuit.proofs.bytes.load.Goals as goal
 
 pub returns : goal.returns
-returns g c =
-    let xs = c.args.xs.now in
-    let m = g.row.WIDTH in
-    let ws = of_block one_at record { a = c.word_from-a.result; b = c.word_from-b.result; c = c.word_from-c.result; d = c.word_from-d.result } 0 in
-    loaded m ws xs (omega arith) (omega arith) (by_four (λ t. (k : ℕ) → k < m → word_bit ws t k ≡ bit_of xs (t * m + k))
-    (λ k h. let e : 0 + k ≡ 0 * m + k = omega arith in c.word_from-a.ensures k (omega arith) (omega arith) ∙ ap (bit_of xs) e)
-    (λ k h. let e : m + k ≡ 1 * m + k = omega arith in c.word_from-b.ensures k (omega arith) (omega arith) ∙ ap (bit_of xs) e)
-    (λ k h. c.word_from-c.ensures k (omega arith) (omega arith))
-    (λ k h. c.word_from-d.ensures k (omega arith) (omega arith)))
+returns g c i hi =
+    let wide = g.met.S.Spongent.wide in
+    let m = g.S.Spongent.WIDTH in
+    let xs = c.args.blocks.now in
+    let ws = of_block g.W.Word.at record { a = c.quarters.result; b = c.quarters-2.result; c = c.quarters-3.result; d = c.quarters-4.result } i in
+    let inside = within (m / 2) i g.W.Word.BLOCKS (length xs) hi c.requires in
+    let long : length (part (m / 2) i xs) ≡ m / 2 = part_length (m / 2) (i * (m / 2)) xs inside in
+    loaded m ws (part (m / 2) i xs) (omega (arith, wide)) (omega (arith, wide, long)) (by_four (λ t. (k : ℕ) → k < m → word_bit ws t k ≡ bit_of (part (m / 2) i xs) (t * m + k))
+    (λ k h. c.quarters.ensures i k hi h) (λ k h. c.quarters-2.ensures i k hi h) (λ k h. c.quarters-3.ensures i k hi h) (λ k h. c.quarters-4.ensures i k hi h))

@@ -5,4 +5,4 @@ use Rattle.circuit.specs.Packed.{packed_bit}
 use Rattle.circuit.proofs.bytes.store.Given as goal
 
 abbrev pub invariant-loop-k : goal.invariant-loop-k
-invariant-loop-k g l = Filled (λ k. word (packed_bit g.row.WIDTH l.ws) (8 * k) 8) l.k l.xs
+invariant-loop-k g l = Filled (λ k. word (packed_bit g.S.Spongent.WIDTH l.ws) (8 * k) 8) l.k l.xs

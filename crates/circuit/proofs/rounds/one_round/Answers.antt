@@ -8,5 +8,6 @@ pub returns : goal.returns
 unfolding round
 returns g c i bs len h =
     let at = g.W.Word.at in
-    planes_hold g.row.WIDTH (of_block at c.add_counter-q.result i) (of_block at c.gather-g.result i) (of_block at c.substitute.result i) (count c.args.c bs)
-    (omega arith) (count_length c.args.c bs ∙ len) (c.add_counter-q.ensures i bs len h) (c.gather-g.ensures i) (c.substitute.ensures i)
+    let wide = g.met.S.Spongent.wide in
+    planes_hold g.S.Spongent.WIDTH (of_block at c.add_counter.result i) (of_block at c.gather.result i) (of_block at c.substitute.result i) (count c.args.c bs)
+    (omega (arith, wide)) (count_length c.args.c bs ∙ len) (c.add_counter.ensures i bs len h) (c.gather.ensures i) (c.substitute.ensures i)

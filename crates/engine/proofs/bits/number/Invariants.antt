@@ -1,6 +1,8 @@
-use Rattle.std.proofs.Common.{◌≡◌, ◌+◌, ◌-◌, ◌^◌, ◌<◌}
+use Rattle.std.proofs.Common.{◌≡◌, ◌-◌, ◌^◌, ◌<◌, length}
 use Rattle.engine.specs.Bits.{value}
 use Rattle.engine.proofs.bits.number.Given as goal
 
-abbrev pub invariant-loop-i : goal.invariant-loop-i
-invariant-loop-i l = (l.x ≡ value l.s (l.p + (l.w - l.i)) l.i) × (l.x < 2 ^ l.i)
+-- the number of the bits so far, which are the highest
+abbrev pub invariant-loop-b : goal.invariant-loop-b
+invariant-loop-b l =
+    (l.n ≡ value l.bits (length l.bits - length l.yielded) (length l.yielded)) × (l.n < 2 ^ length l.yielded)

@@ -3,4 +3,4 @@ use Rattle.engine.proofs.Filling.{Filled}
 use Rattle.engine.proofs.bits.pack.Given as goal
 
 abbrev pub invariant-loop-k : goal.invariant-loop-k
-invariant-loop-k l = Filled (byte_of l.old) l.k l.new
+invariant-loop-k g l = Filled (byte_of l.bits) l.k l.out

@@ -1,12 +1,10 @@
-use Rattle.std.proofs.Common.{arith}
-use Rattle.envelope.proofs.LetterLaws.{zero_stop, zero_more, zero_end}
+use Rattle.std.proofs.Common.{◌==◌, ◌∙◌, rules, tests}
+use Rattle.std.proofs.lemmas.Iterator.{YieldsList-from_slice}
+use Rattle.std.proofs.lemmas.Iterator.Search.{all_from_yields_List}
+use Rattle.envelope.proofs.LetterLaws.{all_zeros}
 use Rattle.envelope.proofs.letters.all_zero.Goals as goal
 
-pub returns-then-b-ne0 : goal.returns-then-b-ne0
-returns-then-b-ne0 c = zero_stop c.args.bytes.now c.loop-b.b-index (omega arith) c.if-b-ne0.true c.loop-b.invariant
-
-pub loop-b-preserved : goal.loop-b-preserved
-loop-b-preserved c = zero_more c.args.bytes.now c.loop-b.b-index (omega arith) c.if-b-ne0.false c.loop-b.invariant
-
 pub returns : goal.returns
-returns c = zero_end c.args.bytes.now c.loop-b.b-index (omega arith) c.loop-b.invariant
+returns c =
+    let xs = c.args.bytes.now in
+    all_from_yields_List (λ x. x == 0) _ _ c.all.result c.all.ensures.ran (YieldsList-from_slice xs cc) (λ x b q k. search (rules, tests)) ∙ all_zeros xs

@@ -1,27 +1,19 @@
 use Rattle.std.proofs.Common.{sym, ◌∙◌, arith, rules}
-use Rattle.envelope.proofs.LetterLaws.{lawful_length, lawful_amount, offered, offered_none, amount_read}
+use Rattle.envelope.proofs.LetterLaws.{lawful_length, unlawful_length, offered, offered_none, amount_read}
 use Rattle.envelope.proofs.letters.amount_in.Goals as goal
 
-pub slice_bounds-number_of-end : goal.slice_bounds-number_of-end
-slice_bounds-number_of-end c =
-    let l = lawful_length c.args.letter.now (sym c.if-not-is_lawful.ensures) in
-    search rules
-
-pub overflow_cast-result : goal.overflow_cast-result
-overflow_cast-result c =
+pub returns-in-Some : goal.returns-in-Some
+returns-in-Some c =
     let xs = c.args.letter.now in
-    let h = sym c.if-not-is_lawful.ensures in
+    let h = sym c.if-is_lawful.ensures in
     let l = lawful_length xs h in
-    let e = c.number_of.ensures ∙ amount_read xs (omega arith) in
-    let a = lawful_amount xs h in
-    search rules
+    amount_read xs c.in-Some.amount.now c.from_be_bytes.result (omega arith) (search rules) c.from_be_bytes.ensures ∙ sym (offered xs h)
 
-pub returns-then-not-is_lawful : goal.returns-then-not-is_lawful
-returns-then-not-is_lawful c = sym (offered_none c.args.letter.now (sym c.if-not-is_lawful.ensures))
+pub returns-in_default : goal.returns-in_default
+returns-in_default c = sym (offered_none c.args.letter.now (sym c.if-is_lawful.ensures))
 
-pub returns : goal.returns
-returns c =
+pub returns-in_default-2 : goal.returns-in_default-2
+returns-in_default-2 c =
     let xs = c.args.letter.now in
-    let h = sym c.if-not-is_lawful.ensures in
-    let l = lawful_length xs h in
-    c.number_of.ensures ∙ amount_read xs (omega arith) ∙ sym (offered xs h)
+    let k = rw c.in_default.is at c.first_chunk.ensures.cases in
+    sym (offered_none xs (sym (unlawful_length xs (λ e. omega (arith, k, e)))))

@@ -1,12 +1,13 @@
-use Rattle.std.proofs.Common.{arith}
-use Rattle.list.proofs.Scans.{equal_here, equal_later, equal_nowhere}
+use Rattle.std.proofs.Common.{◌∙◌, rules, tests}
+use Rattle.std.specs.Ordering.{is_eq}
+use Rattle.std.proofs.lemmas.Iterator.{YieldsList-from_slice}
+use Rattle.std.proofs.lemmas.Iterator.Search.{any_from_yields_List}
+use Rattle.list.proofs.Scans.{any_equal}
 use Rattle.list.proofs.ordered.has_equal.Goals as goal
 
-pub returns-in-Equal : goal.returns-in-Equal
-returns-in-Equal g c = equal_here g.T.Entry.compares c.args.e.now c.args.entries.now c.loop-x.x-index c.x-item.result c.compare.result (omega arith) c.x-item.is c.compare.ensures c.in-Equal.is c.loop-x.invariant
-
-pub loop-x-preserved : goal.loop-x-preserved
-loop-x-preserved g c = equal_later g.T.Entry.compares c.args.e.now c.args.entries.now c.loop-x.x-index c.x-item.result c.compare.result (omega arith) c.x-item.is c.compare.ensures c.in_default.not-Equal c.loop-x.invariant
-
 pub returns : goal.returns
-returns g c = equal_nowhere g.T.Entry.compares c.args.e.now c.args.entries.now c.loop-x.x-index (omega arith) c.loop-x.invariant
+returns g c =
+    let order = g.T.Entry.compares in
+    let e = c.args.e.now in
+    any_from_yields_List (λ x. is_eq (order x e)) _ _ c.any.result c.any.ensures.ran (YieldsList-from_slice c.args.entries.now cc) (λ x b q k. search (rules, tests))
+    ∙ any_equal order e c.args.entries.now

@@ -4,24 +4,6 @@ use Rattle.room.specs.Places.{written_at}
 use Rattle.room.proofs.CodePages.{written_then, length_line, line_parts}
 use Rattle.room.proofs.printing.put_line.Goals as goal
 
-pub put_number-a-requires : goal.put_number-a-requires
-put_number-a-requires c = let e = length_line c.args.lot c.args.offer in omega arith
-
-pub put_byte-b-requires : goal.put_byte-b-requires
-put_byte-b-requires c = let e = length_line c.args.lot c.args.offer in omega arith
-
-pub put_number-c-requires : goal.put_number-c-requires
-put_number-c-requires c = let e = length_line c.args.lot c.args.offer in omega arith
-
-pub put_byte-d-requires : goal.put_byte-d-requires
-put_byte-d-requires c = let e = length_line c.args.lot c.args.offer in omega arith
-
-pub put_number-e-requires : goal.put_number-e-requires
-put_number-e-requires c = let e = length_line c.args.lot c.args.offer in omega arith
-
-pub put_byte-requires : goal.put_byte-requires
-put_byte-requires c = let e = length_line c.args.lot c.args.offer in omega arith
-
 pub returns : goal.returns
 returns c =
     let e = length_line c.args.lot c.args.offer in
@@ -36,9 +18,9 @@ returns c =
     let l3 : length s3 ≡ length s2 + length (decimal c.args.offer.bidder) = length-append s2 (decimal c.args.offer.bidder) in
     let l4 : length s4 ≡ length s3 + 1 = length-append s3 (44 ∷ []) in
     let l5 : length s5 ≡ length s4 + length (decimal c.args.offer.amount) = length-append s4 (decimal c.args.offer.amount) in
-    let p2 = written_then d0 _ _ c.args.at c.put_number-a.result s1 (44 ∷ []) h c.put_number-a.ensures.page c.put_number-a.ensures.end c.put_byte-b.ensures.page in
-    let p3 = written_then d0 _ _ c.args.at c.put_byte-b.result s2 (decimal c.args.offer.bidder) h p2 (omega arith) c.put_number-c.ensures.page in
-    let p4 = written_then d0 _ _ c.args.at c.put_number-c.result s3 (44 ∷ []) h p3 (omega arith) c.put_byte-d.ensures.page in
-    let p5 = written_then d0 _ _ c.args.at c.put_byte-d.result s4 (decimal c.args.offer.amount) h p4 (omega arith) c.put_number-e.ensures.page in
-    let p6 = written_then d0 _ _ c.args.at c.put_number-e.result s5 (10 ∷ []) h p5 (omega arith) c.put_byte.ensures.page in
+    let p2 = written_then d0 _ _ c.args.at c.put_number-a.result s1 (44 ∷ []) h c.put_number-a.ensures.page c.put_number-a.ensures.end c.put-b.ensures.page in
+    let p3 = written_then d0 _ _ c.args.at c.put-b.result s2 (decimal c.args.offer.bidder) h p2 (omega arith) c.put_number-c.ensures.page in
+    let p4 = written_then d0 _ _ c.args.at c.put_number-c.result s3 (44 ∷ []) h p3 (omega arith) c.put-d.ensures.page in
+    let p5 = written_then d0 _ _ c.args.at c.put-d.result s4 (decimal c.args.offer.amount) h p4 (omega arith) c.put_number-e.ensures.page in
+    let p6 = written_then d0 _ _ c.args.at c.put_number-e.result s5 (10 ∷ []) h p5 (omega arith) c.put.ensures.page in
     record { end = omega arith; page = p6 ∙ ap (written_at d0 c.args.at) (line_parts c.args.lot c.args.offer) }

@@ -3,7 +3,7 @@ use Rattle.std.specs.List.{flat_map}
 use Rattle.std.proofs.lemmas.List.{length-append, take_all}
 use Rattle.room.specs.Page.{line}
 use Rattle.room.specs.Places.{written_at}
-use Rattle.room.proofs.CodePages.{written_none, written_then, lines_more, line_fits, none_listed}
+use Rattle.room.proofs.CodePages.{written_then, lines_more, line_fits, none_listed}
 use Rattle.room.proofs.printing.put_lines.Goals as goal
 
 pub put_line-at-requires : goal.put_line-at-requires
@@ -30,6 +30,3 @@ returns c =
       end = c.loop-i.invariant.0 ∙ ap (λ z. c.args.start + length (flat_map (line c.args.lot) z)) e;
       page = c.loop-i.invariant.1 ∙ ap (λ z. written_at c.args.page.now c.args.start (flat_map (line c.args.lot) z)) e;
     }
-
-pub loop-i-init : goal.loop-i-init
-loop-i-init c = (omega arith, written_none c.args.page.now c.args.start)

@@ -7,7 +7,7 @@ use Rattle.envelope.proofs.terms.Terms.put.Goals as goal
 pub returns : goal.returns
 returns c =
     let t = c.args.self in
-    held_written t c.args.filled.now _ _ _ _ c.requires
+    held_written t c.args.held.now _ _ _ _ (search rules)
     (c.put_number.ensures ∙ ap (λ (n : ℕ). bytes_of n t.a) (search (rules, places)))
     (c.put_number-2.ensures ∙ ap (λ (n : ℕ). bytes_of n t.b) (search (rules, places)))
     (c.put_number-3.ensures ∙ ap (λ (n : ℕ). bytes_of n t.c) (search (rules, places)))

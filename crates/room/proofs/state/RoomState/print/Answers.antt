@@ -25,7 +25,7 @@ put_page-requires g c =
     let s = sheet_in v r.lot (take r.terms_bytes r.terms) (take r.count r.slots) in
     let b = length-take r.count r.slots in
     let few = r.few in
-    let f = page_fits v r.lot (take r.terms_bytes r.terms) (take r.count r.slots) c.fill_sheet-n.ensures.fit.0 (omega arith) c.fill_sheet-n.ensures.fit.1 in
+    let f = page_fits v r.lot (take r.terms_bytes r.terms) (take r.count r.slots) (omega arith) (omega arith) c.fill_sheet-n.ensures.fit in
     let e = ap (λ z. length (page r.lot z)) (over_taken s c.args.sheet.now c.fill_sheet-n.new.sheet c.fill_sheet-n.result c.fill_sheet-n.ensures.count c.fill_sheet-n.ensures.sheet) in
     omega (arith, c.requires.page)
 

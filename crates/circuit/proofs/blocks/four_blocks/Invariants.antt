@@ -1,6 +1,0 @@
-use Rattle.engine.specs.Spongent.{spongent}
-use Rattle.engine.proofs.Blocks.{Done}
-use Rattle.circuit.proofs.blocks.four_blocks.Given as goal
-
-abbrev pub invariant-loop-i : goal.invariant-loop-i
-invariant-loop-i g l = Done (spongent l.first l.rounds) l.n l.i l.initial.blocks l.blocks

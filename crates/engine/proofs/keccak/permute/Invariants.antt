@@ -1,0 +1,6 @@
+use Rattle.std.proofs.Common.{◌≡◌}
+use Rattle.engine.specs.Keccak.{after}
+use Rattle.engine.proofs.keccak.permute.Given as goal
+
+abbrev pub invariant-loop-constant : goal.invariant-loop-constant
+invariant-loop-constant l = l.s ≡ after l.constant-index l.initial.s

@@ -1,0 +1,10 @@
+use Rattle.std.proofs.Common.{◌<◌}
+use Rattle.std.proofs.ByRecursion.{All-from_get_or}
+use Rattle.envelope.proofs.TermsLaws.{held_back}
+use Rattle.envelope.proofs.terms.Terms.held_in.Goals as goal
+
+pub returns : goal.returns
+returns c =
+    let xs = c.args.held.now in
+    held_back xs _ c.requires.held (All-from_get_or (λ d. d < 256) xs 0 (λ i h. (c.type_inv.held i).fits))
+    c.number_of.ensures c.number_of-2.ensures c.number_of-3.ensures c.number_of-4.ensures

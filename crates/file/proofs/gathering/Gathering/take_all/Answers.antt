@@ -1,0 +1,76 @@
+use Rattle.std.proofs.Common.{◌≡◌, Some, None, Ok, Err, sym, refl, ap, ◌∙◌, rules}
+use Rattle.file.specs.Contents.{gathered, enrolled_in}
+use Rattle.file.specs.Enrolling.{sale_so_far, sale_by}
+use Rattle.file.specs.Read.{left_of, first_of}
+use Rattle.file.specs.Said.{item_of}
+use Rattle.file.proofs.Sound.{left_well_formed, first_well_formed}
+use Rattle.file.proofs.Takes.{gave, over_first, over_broken, over_ended, keeps_start, keeps_on}
+use Rattle.file.proofs.gathering.Gathering.take_all.Goals as goal
+
+pub loop-line-init : goal.loop-line-init
+loop-line-init c = record {
+  sale = ap (gathered (sale_so_far c.args.self.now)) c.new-reader.ensures;
+  register = ap (enrolled_in (sale_so_far c.args.self.now).register) c.new-reader.ensures;
+  keeps = keeps_start c.args.self.now;
+  same_places = refl;
+}
+
+pub take_in-requires : goal.take_in-requires
+take_in-requires c =
+    first_well_formed (left_of c.loop-line.reader) (item_of c.in-Some.line) (gave _ _ _ (c.in_ok-line.was ∙ ap Ok c.in-Some.is) c.read.ensures.gives) (left_well_formed c.loop-line.reader)
+
+pub loop-line-preserved : goal.loop-line-preserved
+loop-line-preserved c =
+    let i = item_of c.in-Some.line in
+    let L = left_of c.loop-line.reader in
+    let rest = left_of c.read.new.self in
+    let g : Some (Ok i) ≡ first_of L = gave _ _ _ (c.in_ok-line.was ∙ ap Ok c.in-Some.is) c.read.ensures.gives in
+    record {
+      sale = sym (c.in_ok-take_in.ensures.gathers rest) ∙ over_first (gathered (sale_so_far c.loop-line.self)) L rest i _ g c.read.ensures.leaves c.loop-line.invariant.sale;
+      register = sym (c.in_ok-take_in.ensures.enrols rest) ∙ over_first (enrolled_in (sale_so_far c.loop-line.self).register) L rest i _ g c.read.ensures.leaves c.loop-line.invariant.register;
+      keeps = keeps_on _ _ _ c.loop-line.invariant.keeps c.take_in.ensures.keeps;
+      same_places = c.take_in.ensures.same_places ∙ c.loop-line.invariant.same_places;
+    }
+
+pub returns-in_err-line : goal.returns-in_err-line
+unfolding gathered enrolled_in
+returns-in_err-line c =
+    let f = c.in_err-line.field-0.0 in
+    let e : c.from_residual.result ≡ Err f = search rules in
+    let L = left_of c.loop-line.reader in
+    let g : Some (Err f) ≡ first_of L = gave _ _ _ c.in_err-line.was c.read.ensures.gives in
+    record {
+      sale = ap (λ r. sale_by r c.loop-line.self.places.now) e ∙ over_broken (gathered (sale_so_far c.loop-line.self)) L f _ g c.loop-line.invariant.sale;
+      register = over_broken (enrolled_in (sale_so_far c.loop-line.self).register) L f _ g c.loop-line.invariant.register;
+      keeps = c.loop-line.invariant.keeps;
+      same_places = c.loop-line.invariant.same_places;
+    }
+
+pub returns-in_err-take_in : goal.returns-in_err-take_in
+returns-in_err-take_in c =
+    let f = c.in_err-take_in.field-0.0 in
+    let e : c.from_residual-in_err-take_in.result ≡ Err f = search rules in
+    let i = item_of c.in-Some.line in
+    let L = left_of c.loop-line.reader in
+    let rest = left_of c.read.new.self in
+    let g : Some (Ok i) ≡ first_of L = gave _ _ _ (c.in_ok-line.was ∙ ap Ok c.in-Some.is) c.read.ensures.gives in
+    record {
+      sale = ap (λ r. sale_by r c.take_in.new.self.places.now) e ∙ sym (c.in_err-take_in.ensures.gathers rest)
+          ∙ over_first (gathered (sale_so_far c.loop-line.self)) L rest i _ g c.read.ensures.leaves c.loop-line.invariant.sale;
+      register = sym (c.in_err-take_in.ensures.enrols rest) ∙ over_first (enrolled_in (sale_so_far c.loop-line.self).register) L rest i _ g c.read.ensures.leaves c.loop-line.invariant.register;
+      keeps = keeps_on _ _ _ c.loop-line.invariant.keeps c.take_in.ensures.keeps;
+      same_places = c.take_in.ensures.same_places ∙ c.loop-line.invariant.same_places;
+    }
+
+pub returns : goal.returns
+unfolding gathered enrolled_in
+returns c =
+    let n : c.read.result ≡ Ok None = cc in
+    let L = left_of c.loop-line.reader in
+    let g : None ≡ first_of L = gave _ _ _ n c.read.ensures.gives in
+    record {
+      sale = over_ended (gathered (sale_so_far c.loop-line.self)) L _ g c.loop-line.invariant.sale;
+      register = over_ended (enrolled_in (sale_so_far c.loop-line.self).register) L _ g c.loop-line.invariant.register;
+      keeps = c.loop-line.invariant.keeps;
+      same_places = c.loop-line.invariant.same_places;
+    }

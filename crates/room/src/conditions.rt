@@ -1,0 +1,11 @@
+// The conditions under which a room reads envelopes.
+ghost use Rattle.std.specs.Prelude.{◌≤◌, length};
+
+// An engine, a lot and its terms, as a room lends them to the reading of one envelope or of all.
+#[derive(Drop)]
+pub(crate) struct Conditions<'a, E> {
+    pub(crate) engine: &'a E,
+    pub(crate) lot: u32,
+    pub(crate) terms: &'a [u8],
+    ghost short: { length terms.now ≤ 64 },
+}
