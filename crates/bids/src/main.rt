@@ -35,8 +35,8 @@ struct Bid<'a> {
     size: usize,
 }
 
-// Three bids that are granted, and four that are refused.
-fn all_bids(rt: &HostRuntime, pen: &mut Pen) -> io::Result<()> {
+// Three bids that are granted, and four that are refused: each is the usual one but for what it names.
+fn bids() -> [Bid<'static>; 7] {
     let usual = Bid {
         bidder: 5,
         key: &KEY,
@@ -44,7 +44,7 @@ fn all_bids(rt: &HostRuntime, pen: &mut Pen) -> io::Result<()> {
         note: b"",
         size: ENVELOPE_BYTES,
     };
-    let bids = [
+    [
         Bid {
             bidder: 3,
             note: b"pickup on Friday",
@@ -77,8 +77,11 @@ fn all_bids(rt: &HostRuntime, pen: &mut Pen) -> io::Result<()> {
             amount: 1_000_000_000_000,
             ..usual
         },
-    ];
-    for bid in &bids {
+    ]
+}
+
+fn all_bids(rt: &HostRuntime, pen: &mut Pen) -> io::Result<()> {
+    for bid in &bids() {
         one_bid(rt, pen, bid)?;
     }
     Ok(())
