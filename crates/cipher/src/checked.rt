@@ -132,7 +132,7 @@ impl<'a> Checked<'a> {
         )
     }
 
-    // Writes what the text opens to, by an engine of its variant.
+    // Writes what the text opens to, by an engine of its variant. `granted`: a fault is passed up by `?`, though none ever comes, as said of `Keyed`.
     fn open_by<E: Engine>(&self, engine: &E, out: &mut [u8]) -> Result<(), CipherFault>
         requires variant { E.kind engine.now ≡ self.now.variant }
         requires out { length out.old ≡ length self.now.sealed.now }

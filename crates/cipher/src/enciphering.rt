@@ -18,7 +18,9 @@ pub(crate) struct Keyed<'e, E: Engine> {
     pub(crate) first: Block,
 }
 
+// Each method here and in the other modules says `granted`: by a rule of the project an engine's fault is passed up by `?`, though none ever comes.
 impl<'e, E: Engine> Keyed<'e, E> {
+    // Makes the first mask of a key.
     pub(crate) fn new(engine: &'e E, key: &[u8; KEY_BYTES]) -> Result<Keyed<'e, E>, CipherFault>
         ensures { IsOkAnd result (λ k. (k.engine.now ≡ engine.now) × (held (E.kind engine.now) k.first ≡ first_mask (E.kind engine.now) key.now)) }
     {

@@ -1,4 +1,5 @@
 // The masks: phi1 and phi2 of a block, and four masks side by side, each stepped from the one before.
+// Variant and block go along as two and not as one struct: a block is bytes, of which the variant says how many count, and the variant is the engine's.
 ghost use Rattle.std.specs.Prelude.{◌≡◌, ℕ, ◌*◌, take};
 ghost use Rattle.engine.specs.Permutation.{block_size};
 ghost use Rattle.cipher.specs.Blocks.{repeated, stream};
@@ -20,6 +21,7 @@ fn appended_byte(variant: Variant, block: &Block) -> u8
     }
 }
 
+// Drops the first byte of the block and appends another.
 pub(crate) fn phi1(variant: Variant, block: &mut Block)
     ensures { held variant block.new ≡ first_phi variant (held variant block.old) }
 {
@@ -29,6 +31,7 @@ pub(crate) fn phi1(variant: Variant, block: &mut Block)
     block[n - 1] = last;
 }
 
+// The block xored with phi1 of it.
 fn phi2(variant: Variant, block: &mut Block)
     ensures { held variant block.new ≡ second_phi variant (held variant block.old) }
 {

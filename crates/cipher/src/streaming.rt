@@ -28,6 +28,7 @@ fn copies(block: &[u8], blocks: &mut Blocks)
     }
 }
 
+// `granted`: a fault is passed up by `?`, though none ever comes, as said of `Keyed`.
 impl<'e, E: Engine> Keyed<'e, E> {
     // Writes a block of the key stream, under the running mask, and steps that on.
     fn key_block(

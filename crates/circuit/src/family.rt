@@ -1,4 +1,5 @@
 // The two members of the Spongent family.
+// Their first counters and numbers of rounds stand in the plain engine too: there a function gives them, and the constants of a trait cannot ask one.
 ghost use Rattle.std.specs.Prelude.{ℕ};
 ghost use Rattle.std.proofs.Common.{refl, lit≤};
 ghost use Rattle.circuit.specs.Planes.{Wide, of_block, InRows};

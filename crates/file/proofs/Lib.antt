@@ -6,4 +6,3 @@ pub mod Sound
 pub mod Takes
 pub mod Through
 pub mod Digits
-pub mod Enrolled

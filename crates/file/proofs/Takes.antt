@@ -44,10 +44,7 @@ over_broken F L f x e h = sym (ap F (first_broken L f e)) ∙ h
 pub over_ended : {X : Type 0} (F : Items → X) (L : Items) (x : X) → None ≡ first_of L → F L ≡ x → F end ≡ x
 over_ended F L x e h = sym (ap F (first_ended L e)) ∙ h
 
--- what lies behind the register, after no step and after one more
-pub keeps_start : (a : Gathering) → KeepsRest a a
-keeps_start a = record { more = omega arith; rest = refl }
-
+-- what lies behind the register, after one more step
 pub keeps_on : (a b c : Gathering) → KeepsRest a b → KeepsRest b c → KeepsRest a c
 keeps_on a b c h k =
     let n : b.count + (c.count - b.count) ≡ c.count = let m = k.more in omega arith in

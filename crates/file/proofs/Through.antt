@@ -46,9 +46,6 @@ through_envelope out out' r r' l n d e o c is =
 pub through_more : (out out' out'' : Bytes) (r r' r'' : Room) (es es' es'' : List Sent) → GoesThrough out r es out' r' es' → GoesThrough out' r' es' out'' r'' es'' → GoesThrough out r es out'' r'' es''
 through_more out out' out'' r r' r'' es es' es'' a b = record { prints = b.prints ∙ a.prints; leaves = b.leaves ∙ a.leaves }
 
-pub through_start : (out : Bytes) (r : Room) (L L' : Items) → L ≡ L' → GoesThrough out r (envelopes_in L') out r (envelopes_in L)
-through_start out r L L' e = record { prints = ap (λ z. out ++ answer_lines r (envelopes_in z)) e; leaves = ap (λ z. lodged_all r (envelopes_in z)) e }
-
 -- one more line, above an engine of the same variant
 pub through_item : (out out' out'' : Bytes) (v w : Variant) (s s' s'' : RoomState) (es : List Sent) (L rest : Items) (i : Item) → w ≡ v
     → GoesThrough out (contents v s) es out' (contents v s') (envelopes_in L) → Some (Ok i) ≡ first_of L → rest ≡ rest_of L
@@ -71,8 +68,3 @@ broken_left L f e = ap envelopes_in (first_broken L f e)
 
 pub through_all : (out out' : Bytes) (r r' : Room) (es : List Sent) (L : Items) → envelopes_in L ≡ [] → GoesThrough out r es out' r' (envelopes_in L) → GoesThrough out r es out' r' []
 through_all out out' r r' es L e a = subst (λ (z : List Sent). GoesThrough out r es out' r' z) e a
-
--- a text and then a line of two values, printed on nothing
-pub first_lines : (v out out₀ text : Bytes) (a b a' b' : ℕ) → v ≡ out ++ two_values a b → out ≡ out₀ ++ text → out₀ ≡ [] → a ≡ a' → b ≡ b' → v ≡ text ++ two_values a' b'
-first_lines v out out₀ text a b a' b' p q e s t =
-    p ∙ ap (λ z. z ++ two_values a b) (q ∙ ap (λ z. z ++ text) e) ∙ ap (λ z. text ++ two_values z b) s ∙ ap (λ z. text ++ two_values a' z) t

@@ -79,6 +79,7 @@ impl Fault for RoomFault {
     }
 }
 
+// By a rule of the project each layer above has such a `From`, for `?` to pass a fault of the cipher up, held whole.
 impl From<CipherFault> for RoomFault {
     ghost from_gives = { λ f r. r ≡ by_cipher f };
 

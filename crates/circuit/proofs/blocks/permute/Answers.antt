@@ -1,7 +1,7 @@
 use Rattle.std.proofs.Common.{◌≡◌, ℕ, ◌+◌, ◌-◌, ◌*◌, ◌/◌, ◌<◌, ◌≤◌, length, take, drop, ap, ◌∙◌, ap₂, arith}
 use Rattle.engine.specs.Bits.{bits}
 use Rattle.engine.specs.Spongent.{after, spongent}
-use Rattle.engine.proofs.Blocks.{Done, done_none, done_more, done_all}
+use Rattle.engine.proofs.Blocks.{Done, done_none, done_more}
 use Rattle.circuit.specs.Planes.{of_block, one_at, part, block_bit, Holds}
 use Rattle.circuit.proofs.Layers.{bits_length}
 use Rattle.circuit.proofs.Parts.{within, part_length, rest_same, part_done}
@@ -9,12 +9,6 @@ use Rattle.circuit.proofs.blocks.permute.Goals as goal
 
 pub loop-i-init : goal.loop-i-init
 loop-i-init g c = done_none (spongent g.S.Spongent.FIRST g.S.Spongent.ROUNDS) (c.WIDTH.result / 2) c.args.blocks.now
-
-pub slice_bounds-store-end : goal.slice_bounds-store-end
-slice_bounds-store-end g c =
-    let i = c.loop-i.i in
-    let hi : i < g.W.Word.BLOCKS = omega arith in
-    rw c.WIDTH.ensures (within (g.S.Spongent.WIDTH / 2) i g.W.Word.BLOCKS (length c.loop-i.blocks) hi (omega arith))
 
 pub loop-i-preserved : goal.loop-i-preserved
 loop-i-preserved g c =
@@ -41,9 +35,3 @@ loop-i-preserved g c =
     λ j l. ap (λ v. block_bit m v j) c.lane.ensures ∙ c.all_rounds-r.ensures i (bits (part n i xs)) wide_bits (c.load-p.ensures i hi) j l in
     let stored = rw c.WIDTH.ensures at (c.store.ensures (after first rounds (bits (part n i xs))) held) in
     rw c.WIDTH.ensures (done_more f n i xs ys new same inside done (part_done first rounds old (part n i xs) new stands stored))
-
-pub returns : goal.returns
-returns g c =
-    let all : c.loop-i.i ≡ g.W.Word.BLOCKS = omega arith in
-    done_all (spongent g.S.Spongent.FIRST g.S.Spongent.ROUNDS) (g.S.Spongent.WIDTH / 2) g.W.Word.BLOCKS c.args.blocks.now c.loop-i.blocks c.requires
-    (rw (← all) (rw c.WIDTH.ensures at c.loop-i.invariant))

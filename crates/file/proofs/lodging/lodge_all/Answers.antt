@@ -1,13 +1,10 @@
-use Rattle.std.proofs.Common.{◌≡◌, None, Ok, sym, refl, ap, ◌∙◌}
+use Rattle.std.proofs.Common.{◌≡◌, None, Ok, sym, ap, ◌∙◌}
 use Rattle.std.specs.Result.{result_transpose}
 use Rattle.file.specs.Read.{left_of, given}
 use Rattle.file.specs.Said.{item_of}
 use Rattle.file.proofs.Sound.{left_well_formed, first_well_formed}
-use Rattle.file.proofs.Through.{through_start, through_item, ended_left, broken_left, through_all}
+use Rattle.file.proofs.Through.{through_item, ended_left, broken_left, through_all}
 use Rattle.file.proofs.lodging.lodge_all.Goals as goal
-
-pub loop-line-init : goal.loop-line-init
-loop-line-init c = (through_start _ _ _ _ c.new-reader.ensures, refl, refl)
 
 pub lodge_said-requires : goal.lodge_said-requires
 lodge_said-requires c =

@@ -1,7 +1,7 @@
-use Rattle.std.proofs.Common.{◌≡◌, ℕ, ◌+◌, ◌-◌, ◌*◌, ◌≤◌, length, take, drop, sym, refl, ap, ◌∙◌, arith, rules}
-use Rattle.engine.specs.Permutation.{permutation, block_size, each}
-use Rattle.engine.proofs.Blocks.{done_none, done_more, done_all}
-use Rattle.engine.proofs.Granted.{answered_granted, replaced_granted}
+use Rattle.std.proofs.Common.{◌≡◌, ◌+◌, ◌-◌, ◌*◌, ◌≤◌, length, take, drop, ap, ◌∙◌, rules}
+use Rattle.engine.specs.Permutation.{permutation, block_size}
+use Rattle.engine.proofs.Blocks.{done_none, done_more}
+use Rattle.engine.proofs.Granted.{replaced_granted}
 use Rattle.engine.proofs.interface.Engine.four.Goals as goal
 
 pub loop-i-init : goal.loop-i-init
@@ -18,17 +18,3 @@ loop-i-preserved g c =
     let whole : length part ≡ block_size v = search rules in
     done_more (permutation v) n i c.args.blocks.now c.loop-i.blocks c.one.new.block
     c.loop-i.auto.blocks within c.loop-i.invariant (c.one.ensures.block ∙ replaced_granted (block_size v) (permutation v) part whole)
-
-pub returns : goal.returns
-returns g c =
-    let v = g.Self.Engine.kind c.args.self.now in
-    let wide : c.block_bytes-n.result ≡ block_size v = c.block_bytes-n.ensures ∙ ap block_size c.variant.ensures.answer in
-    let four : c.loop-i.i ≡ 4 = omega arith in
-    let all : length c.args.blocks.now ≡ 4 * block_size v = c.if-blocks-n.false ∙ ap (λ (m : ℕ). 4 * m) wide in
-    record {
-      answer = sym (answered_granted (4 * block_size v) c.args.blocks.now all);
-      blocks =
-          done_all (permutation v) (block_size v) 4 c.args.blocks.now c.loop-i.blocks all (rw (← wide, ← four) c.loop-i.invariant)
-          ∙ sym (replaced_granted (4 * block_size v) (each (permutation v) (block_size v) 4) c.args.blocks.now all);
-      engine = refl;
-    }

@@ -1,19 +1,11 @@
-use Rattle.std.proofs.Common.{◌≡◌, Some, None, Ok, Err, sym, refl, ap, ◌∙◌, rules}
+use Rattle.std.proofs.Common.{◌≡◌, Some, None, Ok, Err, sym, ap, ◌∙◌, rules}
 use Rattle.file.specs.Contents.{gathered, enrolled_in}
 use Rattle.file.specs.Enrolling.{sale_so_far, sale_by}
 use Rattle.file.specs.Read.{left_of, first_of}
 use Rattle.file.specs.Said.{item_of}
 use Rattle.file.proofs.Sound.{left_well_formed, first_well_formed}
-use Rattle.file.proofs.Takes.{gave, over_first, over_broken, over_ended, keeps_start, keeps_on}
+use Rattle.file.proofs.Takes.{gave, over_first, over_broken, over_ended, keeps_on}
 use Rattle.file.proofs.gathering.Gathering.take_all.Goals as goal
-
-pub loop-line-init : goal.loop-line-init
-loop-line-init c = record {
-  sale = ap (gathered (sale_so_far c.args.self.now)) c.new-reader.ensures;
-  register = ap (enrolled_in (sale_so_far c.args.self.now).register) c.new-reader.ensures;
-  keeps = keeps_start c.args.self.now;
-  same_places = refl;
-}
 
 pub take_in-requires : goal.take_in-requires
 take_in-requires c =
