@@ -1,8 +1,10 @@
 pub mod Cuts
 pub mod Lawful
+pub mod Pages
 pub mod Pairs
 pub mod Registers
 pub mod Sound
 pub mod Takes
 pub mod Through
 pub mod Digits
+pub mod Held

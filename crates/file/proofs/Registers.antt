@@ -5,7 +5,7 @@ use Rattle.list.specs.Order.{Rising, by_key}
 use Rattle.list.proofs.Laws.{key_below}
 use Rattle.room.specs.Making.{rises_from, lawful_register}
 use Rattle.room.specs.declared.register.RegisterEntry.{RegisterEntry}
-use Rattle.file.specs.Contents.{Sale}
+use Rattle.room.specs.Sales.{Sale}
 use Rattle.file.specs.Theorems.{KeepsLimits}
 
 abbrev nobody : RegisterEntry
@@ -19,7 +19,7 @@ head_below : (x : RegisterEntry) (xs : List RegisterEntry) (k : ℕ) → Rising 
 unfolding Rising
 head_below x xs k h l = key_below (λ y. y.bidder) x (get_or xs k nobody) (h 0 (suc k) nobody (omega arith) (omega arith))
 
-rises_of : (xs : List RegisterEntry) (m : ℕ) → Rising (by_key (λ y. y.bidder)) xs → ((k : ℕ) → k < length xs → m ≤ (get_or xs k nobody).bidder) → rises_from m xs ≡ true
+pub rises_of : (xs : List RegisterEntry) (m : ℕ) → Rising (by_key (λ y. y.bidder)) xs → ((k : ℕ) → k < length xs → m ≤ (get_or xs k nobody).bidder) → rises_from m xs ≡ true
 rises_of [] m h b = refl
 rises_of (x ∷ xs) m h b =
     and_from (leb m x.bidder) (rises_from (x.bidder + 1) xs) (le-leb m x.bidder (b 0 (omega arith)))

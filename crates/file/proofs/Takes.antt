@@ -3,7 +3,8 @@ use Rattle.std.proofs.Common.{◌≡◌, ℕ, ◌+◌, ◌-◌, List, drop, Some
 use Rattle.std.proofs.lemmas.List.{drop-drop}
 use Rattle.std.specs.Result.{result_transpose}
 use Rattle.list.specs.declared.faults.ListFault.{ListFault}
-use Rattle.file.specs.Contents.{Sale, with_register, and_then, or_stop, gathered, enrolled_in}
+use Rattle.room.specs.Sales.{Sale}
+use Rattle.file.specs.Contents.{with_register, and_then, or_stop, gathered, enrolled_in}
 use Rattle.file.specs.Enrolling.{enrolling_answer, register_after, goes_on, enrols_on, KeepsRest}
 use Rattle.file.specs.Form.{Item, Items, end, broken, item}
 use Rattle.file.specs.Hexadecimal.{written_bytes}

@@ -12,20 +12,15 @@ use Rattle.file.specs.Form.{Items, end, broken, item, lot_item, bidder_item, env
 use Rattle.file.specs.declared.faults.FileFault.{FileFault}
 use Rattle.file.specs.declared.faults.FileFault.TheVariants.{TooLong, List as ByList}
 use Rattle.file.specs.declared.line.Section.TheVariants.{LotNames}
+use Rattle.room.specs.Sales.{Sale}
 use Rattle.room.specs.declared.register.RegisterEntry.{RegisterEntry}
-
--- What a room is made of.
-pub record Sale : Type 0 where
-  pub lot : ℕ
-  pub variant : Variant
-  pub terms : Bytes
-  pub register : List RegisterEntry
 
 -- An envelope, and the line that it stands in.
 pub record Sent : Type 0 where
   pub at : ℕ
   pub envelope : Bytes
 
+-- What a file holds: what its room is made of, and its envelopes.
 pub record Contents : Type 0 where
   pub sale : Sale
   pub envelopes : List Sent
@@ -38,10 +33,10 @@ enrolled e register =
 
 -- The sale that a file's lines say, gathered line by line: s is what was gathered so far.
 abbrev pub with_lot : ℕ → Variant → Bytes → Sale → Sale
-with_lot lot variant terms s = record { lot = lot; variant = variant; terms = terms; register = s.register }
+with_lot lot variant terms s = record { variant = variant; lot = lot; terms = terms; register = s.register }
 
 abbrev pub with_register : List RegisterEntry → Sale → Sale
-with_register register s = record { lot = s.lot; variant = s.variant; terms = s.terms; register = register }
+with_register register s = record { variant = s.variant; lot = s.lot; terms = s.terms; register = register }
 
 abbrev pub and_then : ℕ → Result (List RegisterEntry) ListFault → (List RegisterEntry → Result Sale FileFault) → Result Sale FileFault
 and_then n (Ok register) go_on = go_on register
@@ -69,7 +64,7 @@ said_in file = cond (nat_lt 32768 (length file)) (broken TooLong) (items LotName
 
 -- Before the first line nothing is known: no bidders, and the other fields are set by the line of the lot, which comes first.
 abbrev pub nothing : Sale
-nothing = record { lot = 0; variant = Dumbo; terms = []; register = [] }
+nothing = record { variant = Dumbo; lot = 0; terms = []; register = [] }
 
 -- The sale of a file, or the fault of the first line that breaks a rule.
 abbrev pub sale_in : Bytes → Result Sale FileFault

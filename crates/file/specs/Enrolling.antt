@@ -1,7 +1,8 @@
 -- What enrolling a bidder leaves in the list of bidders, and what gathering a file leaves in the places lent for it.
 use Rattle.std.specs.Prelude.{◌≡◌, ℕ, ◌≤◌, List, ◌++◌, length, take, drop, Ok, Err, Result}
 use Rattle.list.specs.declared.faults.ListFault.{ListFault}
-use Rattle.file.specs.Contents.{Sale, gathered, enrolled_in}
+use Rattle.room.specs.Sales.{Sale}
+use Rattle.file.specs.Contents.{gathered, enrolled_in}
 use Rattle.file.specs.Form.{Items}
 use Rattle.file.specs.declared.faults.FileFault.{FileFault}
 use Rattle.file.specs.declared.faults.FileFault.TheVariants.{List as ByList}
@@ -24,13 +25,9 @@ pub record KeepsRest (before after : Gathering) : Type 0 where
   pub more : before.count ≤ after.count
   pub rest : drop after.count after.places.now ≡ drop after.count before.places.now
 
--- Places after others were written over the first of them.
-abbrev pub written_over : List RegisterEntry → List RegisterEntry → List RegisterEntry
-written_over new old = new ++ drop (length new) old
-
 -- The sale that was gathered, with its register.
 abbrev pub sale_of : Gathered → List RegisterEntry → Sale
-sale_of g register = record { lot = g.lot; variant = g.variant; terms = g.terms.now; register = register }
+sale_of g register = record { variant = g.variant; lot = g.lot; terms = g.terms.now; register = register }
 
 -- The same, the register being in the first of the places.
 abbrev pub sale_by : Result Gathered FileFault → List RegisterEntry → Result Sale FileFault
@@ -39,7 +36,7 @@ sale_by (Err f) places = Err f
 
 -- The sale that was gathered so far.
 abbrev pub sale_so_far : Gathering → Sale
-sale_so_far g = record { lot = g.lot; variant = g.variant; terms = g.terms.now; register = take g.count g.places.now }
+sale_so_far g = record { variant = g.variant; lot = g.lot; terms = g.terms.now; register = take g.count g.places.now }
 
 -- What comes of the lines behind one that was taken in, s being the sale so far, or xs the register.
 abbrev pub goes_on : Result (Unit {0}) FileFault → Sale → Items → Result Sale FileFault

@@ -3,6 +3,7 @@ pub mod Enrolling
 pub mod Faults
 pub mod Fields
 pub mod Form
+pub mod Holding
 pub mod Hexadecimal
 pub mod Lines
 pub mod Numbers

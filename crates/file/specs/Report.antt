@@ -1,11 +1,12 @@
 -- What is printed of a sale file: where it is refused the fault and its line, otherwise the answer to each envelope and the page.
-use Rattle.std.specs.Prelude.{ℕ, List, [], ◌∷◌, ◌++◌, Ok, Err, codes, decimal, Result}
+use Rattle.std.specs.Prelude.{ℕ, List, [], ◌∷◌, ◌++◌, Some, None, Ok, Err, codes, decimal, Option, Result}
 use Rattle.room.specs.Calls.{Answer, Lodging, Closing, answer_to, room_after, page_of_room}
 use Rattle.room.specs.Faults.{fault_number as room_number}
 use Rattle.room.specs.Making.{new_room}
 use Rattle.room.specs.Rooms.{Contents as Room}
 use Rattle.file.specs.Lines.{Bytes}
-use Rattle.file.specs.Contents.{Sale, Sent, Contents, contents_in}
+use Rattle.room.specs.Sales.{Sale}
+use Rattle.file.specs.Contents.{Sent, Contents, contents_in}
 use Rattle.file.specs.Faults.{fault_number, line_of}
 use Rattle.file.specs.declared.faults.FileFault.{FileFault}
 
@@ -26,11 +27,12 @@ abbrev pub answer_number : Answer → ℕ
 answer_number (Ok n) = 0
 answer_number (Err f) = room_number f
 
--- The envelopes are lodged in their order: the line of each with its answer, and the room that they leave.
+-- The envelopes are lodged in their order: the line of each with its answer.
 unfoldable pub answer_lines : Room → List Sent → Bytes
 answer_lines r [] = []
 answer_lines r (e ∷ es) = two_values e.at (answer_number (answer_to r (Lodging e.envelope))) ++ answer_lines (room_after r (Lodging e.envelope)) es
 
+-- The room that they leave.
 unfoldable pub lodged_all : Room → List Sent → Room
 lodged_all r [] = r
 lodged_all r (e ∷ es) = lodged_all (room_after r (Lodging e.envelope)) es
@@ -50,3 +52,11 @@ report_by (Err f) = refused_report f
 -- The report of a file.
 abbrev pub report_of : Bytes → Bytes
 report_of file = report_by (contents_in file)
+
+-- Why a file is refused, if it is.
+abbrev pub refusal_by : Result Contents FileFault → Option FileFault
+refusal_by (Ok c) = None
+refusal_by (Err f) = Some f
+
+abbrev pub refusal_of : Bytes → Option FileFault
+refusal_of file = refusal_by (contents_in file)

@@ -1,8 +1,12 @@
 -- What is true of every sale file that is accepted.
-use Rattle.std.specs.Prelude.{◌≡◌, ◌≤◌, length, Ok}
+use Rattle.std.specs.Prelude.{◌≡◌, ◌≤◌, ◌↔◌, length, Ok}
 use Rattle.list.specs.Order.{Rising, by_key}
+use Rattle.room.specs.Runs.{History, IsClosed, Prints}
+use Rattle.room.specs.Sales.{Sale, Among, OneToAHead}
 use Rattle.file.specs.Lines.{Bytes}
-use Rattle.file.specs.Contents.{Sale, sale_in}
+use Rattle.file.specs.Contents.{Contents, contents_in, sale_in}
+use Rattle.file.specs.Holding.{Held, envelopes_of}
+use Rattle.file.specs.Report.{page_in}
 
 -- A sale within the limits of a room: at most 64 bytes of terms, and 1 to 64 bidders by strictly rising number.
 pub record KeepsLimits (s : Sale) : Type 0 where
@@ -14,3 +18,14 @@ pub record KeepsLimits (s : Sale) : Type 0 where
 -- The sale of an accepted file is within them.
 abbrev pub AcceptedFilesKeepLimits : Type 0
 AcceptedFilesKeepLimits = (file : Bytes) (s : Sale) → sale_in file ≡ Ok s → KeepsLimits s
+
+-- What is printed of files as the page.
+pub record LawsOfPages : Type 0 where
+  -- A room in which the sale of a file was held is closed, and prints the page of the file and no other.
+  pub a_room_in_which_the_sale_was_held_prints_the_page :
+      (c : Contents) (x : History) → Held c x → IsClosed x × ((p : Bytes) → Prints x p ↔ (p ≡ page_in c))
+  -- Two accepted files of one sale, in which the same envelopes stand in whatever order and however often, print the same page, if no two
+  -- different genuine ones among them carry one head.
+  pub order_and_repetition_do_not_matter :
+      (f g : Bytes) (c d : Contents) → contents_in f ≡ Ok c → contents_in g ≡ Ok d → c.sale ≡ d.sale
+      → ((e : Bytes) → Among (envelopes_of c) e ↔ Among (envelopes_of d) e) → OneToAHead c.sale (envelopes_of c) → page_in c ≡ page_in d

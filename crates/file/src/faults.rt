@@ -1,11 +1,13 @@
 // Why a sale file is refused.
 ghost use Rattle.std.specs.Prelude.{◌≡◌};
 ghost use Rattle.file.specs.Faults.{fault_number, fault_layer, line_of, fault_place};
+ghost use Rattle.file.specs.declared.faults.FileFault.TheVariants.{Room as by_room};
 
 use fault::{Fault, Layer, Place};
 use list::ListFault;
+use room::RoomFault;
 
-// Each fault but the first lies in a line, counted from 1.
+// Each fault but the first and the last lies in a line, counted from 1.
 #[derive(Clone, Copy, PartialEq, Eq, Debug)]
 pub enum FileFault {
     // The file has more than 32,768 bytes.
@@ -16,10 +18,12 @@ pub enum FileFault {
     TermsLength { line: u32 },
     // The list of bidders refuses the line's bidder.
     List { line: u32, cause: ListFault },
+    // The room refuses the sale. It never does, since an accepted file keeps the limits of a room.
+    Room(RoomFault),
 }
 
 impl FileFault {
-    // The line that is refused, 0 for a file that is too long.
+    // The line that is refused, 0 for a file that is too long, and for one that the room refuses.
     pub fn line(self) -> u32
         ensures { result ≡ line_of self }
     {
@@ -28,6 +32,7 @@ impl FileFault {
             FileFault::Form { line } => line,
             FileFault::TermsLength { line } => line,
             FileFault::List { line, cause: _ } => line,
+            FileFault::Room(_) => 0,
         }
     }
 }
@@ -45,6 +50,7 @@ impl Fault for FileFault {
             FileFault::Form { line: _ } => 22,
             FileFault::TermsLength { line: _ } => 15,
             FileFault::List { line: _, cause } => cause.number(),
+            FileFault::Room(cause) => cause.number(),
         }
     }
 
@@ -54,5 +60,14 @@ impl Fault for FileFault {
 
     fn place(self) -> Place {
         Place::Line(self.line())
+    }
+}
+
+// By a rule of the project each layer above has such a `From`, for `?` to pass a fault of the layer below up, held whole.
+impl From<RoomFault> for FileFault {
+    ghost from_gives = { λ f r. r ≡ by_room f };
+
+    fn from(f: RoomFault) -> FileFault {
+        FileFault::Room(f)
     }
 }

@@ -1,4 +1,4 @@
-// The sale file: its lines, and what they say of a sale.
+// The sale file: its lines, what they say of a sale, and what is printed of it.
 #![tactic(auto)]
 
 mod enrolling;
@@ -7,6 +7,7 @@ mod fields;
 mod forms;
 mod gathering;
 mod hexadecimal;
+mod holding;
 mod judging;
 mod line;
 mod lodging;
@@ -14,6 +15,8 @@ mod numbers;
 mod printing;
 mod reader;
 mod reading;
+mod reporting;
+mod stopping;
 mod taking;
 mod theorems;
 
@@ -21,5 +24,6 @@ pub use faults::FileFault;
 pub use gathering::Gathered;
 pub use line::Line;
 pub use reader::Reader;
+pub use reporting::{Report, report_on};
 pub use taking::gather;
-pub use theorems::accepted_files_keep_limits;
+pub use theorems::{accepted_files_keep_limits, page_laws_stand};

@@ -1,6 +1,6 @@
 // The envelopes of a sale file, lodged in their order.
 ghost use Rattle.std.specs.Prelude.{◌≡◌, true, [], ◌++◌, IfOk, OnOk};
-ghost use Rattle.room.specs.Calls.{Lodging, answer_to, room_after};
+ghost use Rattle.room.specs.Calls.{Lodging, Met, answer_to};
 ghost use Rattle.room.specs.Rooms.{contents};
 ghost use Rattle.file.specs.Contents.{said_in, envelopes_in};
 ghost use Rattle.file.specs.Form.{is_envelope, Items, item};
@@ -13,7 +13,7 @@ use crate::hexadecimal::decode;
 use crate::line::Line;
 use crate::printing::put_values;
 use crate::reader::Reader;
-use engine::Plain;
+use engine::Engine;
 use fault::Fault;
 use room::Room;
 use std::alloc::{AllocError, Global};
@@ -30,15 +30,15 @@ fn decoded(heap: Global, digits: &[u8]) -> Result<Vec<u8>, AllocError>
 
 // Lodges the envelope of a line, and adds the line with the answer, which is 0 where it is accepted. The room and the report go side by side:
 // in a struct lent to a function, what the room's place holds would no longer be known once it is given back.
-fn lodge_line(
-    room: &mut Room<Plain>,
+fn lodge_line<E: Engine + Drop>(
+    room: &mut Room<E>,
     line: u32,
     digits: &[u8],
     out: &mut Vec<u8>,
 ) -> Result<(), AllocError>
     requires { is_envelope digits.now ≡ true }
-    ensures { OnOk result ((out.new.items ≡ out.old.items ++ two_values line (answer_number (answer_to (contents room.old.engine.variant room.old.inner.now) (Lodging (written_bytes digits.now)))))
-        × (contents room.old.engine.variant room.new.inner.now ≡ room_after (contents room.old.engine.variant room.old.inner.now) (Lodging (written_bytes digits.now)))
+    ensures { OnOk result ((out.new.items ≡ out.old.items ++ two_values line (answer_number (answer_to (contents (E.kind room.old.engine) room.old.inner.now) (Lodging (written_bytes digits.now)))))
+        × Met (E.kind room.old.engine) room.old.inner.now (Lodging (written_bytes digits.now)) (answer_to (contents (E.kind room.old.engine) room.old.inner.now) (Lodging (written_bytes digits.now))) room.new.inner.now
         × (room.new.engine ≡ room.old.engine)
         × (room.new.inner.ghost_name ≡ room.old.inner.ghost_name)) }
 {
@@ -48,9 +48,13 @@ fn lodge_line(
 }
 
 // Lodges what a line says, where it is an envelope.
-fn lodge_said(room: &mut Room<Plain>, said: Line, out: &mut Vec<u8>) -> Result<(), AllocError>
+fn lodge_said<E: Engine + Drop>(
+    room: &mut Room<E>,
+    said: Line,
+    out: &mut Vec<u8>,
+) -> Result<(), AllocError>
     requires { WellFormed (item_of said) }
-    ensures { OnOk result (((is : Items) → GoesThrough out.old.items (contents room.old.engine.variant room.old.inner.now) (envelopes_in (item (item_of said.entry) is)) out.new.items (contents room.old.engine.variant room.new.inner.now) (envelopes_in is))
+    ensures { OnOk result (((is : Items) → GoesThrough (E.kind room.old.engine) out.old.items room.old.inner.now (envelopes_in (item (item_of said.entry) is)) out.new.items room.new.inner.now (envelopes_in is))
         × (room.new.engine ≡ room.old.engine)
         × (room.new.inner.ghost_name ≡ room.old.inner.ghost_name)) }
 {
@@ -61,12 +65,12 @@ fn lodge_said(room: &mut Room<Plain>, said: Line, out: &mut Vec<u8>) -> Result<(
 }
 
 // Lodges all envelopes of a file in their order, up to its end or to a line that is refused, and adds the line of each with its answer.
-pub(crate) fn lodge_all(
+pub(crate) fn lodge_all<E: Engine + Drop>(
     text: &[u8],
-    room: &mut Room<Plain>,
+    room: &mut Room<E>,
     out: &mut Vec<u8>,
 ) -> Result<(), AllocError>
-    ensures { OnOk result (GoesThrough out.old.items (contents room.old.engine.variant room.old.inner.now) (envelopes_in (said_in text.now)) out.new.items (contents room.old.engine.variant room.new.inner.now) []
+    ensures { OnOk result (GoesThrough (E.kind room.old.engine) out.old.items room.old.inner.now (envelopes_in (said_in text.now)) out.new.items room.new.inner.now []
         × (room.new.engine ≡ room.old.engine)
         × (room.new.inner.ghost_name ≡ room.old.inner.ghost_name)) }
 {

@@ -1,9 +1,10 @@
 // A sale file taken in: every line in its turn.
-ghost use Rattle.std.specs.Prelude.{◌≡◌, []};
+ghost use Rattle.std.specs.Prelude.{◌≡◌, ◌≤◌, [], IfOk};
 ghost use Rattle.file.specs.Contents.{gathered, enrolled_in, said_in, sale_in};
-ghost use Rattle.file.specs.Enrolling.{KeepsRest, sale_so_far, sale_by, goes_on, enrols_on, written_over};
+ghost use Rattle.file.specs.Enrolling.{KeepsRest, sale_so_far, sale_by, goes_on, enrols_on};
 ghost use Rattle.file.specs.Form.{Items, item};
 ghost use Rattle.file.specs.Said.{item_of, WellFormed};
+ghost use Rattle.room.specs.Opening.{written_over};
 
 use crate::faults::FileFault;
 use crate::gathering::{Gathered, Gathering};
@@ -44,6 +45,7 @@ impl<'a> Gathering<'a, '_> {
     fn take_all(&mut self, text: &'a [u8]) -> Result<Gathered<'a>, FileFault>
         ensures sale { sale_by result self.new.places.now ≡ gathered (sale_so_far self.old) (said_in text.now) }
         ensures register { (sale_so_far self.new).register ≡ enrolled_in (sale_so_far self.old).register (said_in text.now) }
+        ensures few { IfOk result (λ g. g.count ≤ 64) }
         ensures keeps { KeepsRest self.old self.new }
         ensures same_places { self.new.places.ghost_name ≡ self.old.places.ghost_name }
     {
@@ -67,6 +69,7 @@ pub fn gather<'a>(
     places: &mut [RegisterEntry; REGISTER_PLACES],
 ) -> Result<Gathered<'a>, FileFault>
     ensures sale { sale_by result places.new ≡ sale_in text.now }
+    ensures few { IfOk result (λ g. g.count ≤ 64) }
     ensures places { places.new ≡ written_over (enrolled_in [] (said_in text.now)) places.old }
 {
     let mut sale = Gathering {

@@ -1,5 +1,9 @@
-// Examples of sale files: what their lines say, and where they are refused.
+// Examples of sale files: what their lines say, where they are refused, and what is printed of them.
 #![tactic(auto)]
 
+#[cfg(test)]
+mod checking;
+#[cfg(test)]
+mod making;
 #[cfg(test)]
 mod tests;

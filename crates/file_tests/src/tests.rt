@@ -1,57 +1,80 @@
-// Small files, each with what comes of it.
+// Small files, each with what is printed of it.
+use crate::checking::{NOBODY, accepts, is_accepted, is_refused, refuses};
+use crate::making::{bidders_then, terms_of};
 use engine::Variant;
 use fault::{Fault, Layer, Place};
 use file::{FileFault, Line, Reader, gather};
-use room::RegisterEntry;
-use std::process::Abort;
 use std::test::Fail;
 
-const NOBODY: RegisterEntry = RegisterEntry {
-    bidder: 0,
-    key: [0; 16],
-};
-
-// The number of the fault that refuses a file and its line, if one does.
-fn refusal(file: &[u8]) -> Option<(u8, u32)> {
-    let mut places = [NOBODY; 64];
-    gather(file, &mut places)
-        .err()
-        .map(|f| (f.number(), f.line()))
-}
-
-// Checks that each file is accepted.
-fn accepts(rt: &impl Abort, files: &[&str]) {
-    for file in files {
-        assert_eq!(rt; refusal(file.as_bytes()), None, "{}", *file);
-    }
-}
-
-// Checks each file of a table against the number and the line that refuse it.
-fn refuses(rt: &impl Abort, table: &[(&str, u8, u32)]) {
-    for (file, number, line) in table {
-        assert_eq!(rt;
-            refusal(file.as_bytes()),
-            Some((*number, *line)),
-            "{}",
-            *file
-        );
-    }
-}
-
 #[test]
-fn a_file_is_accepted(rt: HostRuntime) {
+fn a_file_is_accepted(rt: HostRuntime) -> Result<(), Fail> {
     accepts(
         &rt,
         &[
-            "lot,variant,terms\n17,dumbo,bows\n\nbidder,key\n3,000102030405060708090a0b0c0d0e0f\n8,101112131415161718191a1b1c1d1e1f\n\nenvelope\n00\n",
-            "lot,variant,terms\n0,jumbo,\n\nbidder,key\n0,000102030405060708090a0b0c0d0e0f\n\nenvelope\n",
-            "lot,variant,terms\n4294967295,delirium,a,b,,c\r\n\nbidder,key\n4294967295,ffffffffffffffffffffffffffffffff\n1,000102030405060708090a0b0c0d0e0f\n\nenvelope\n00\nabcdef0123456789\n",
+            (
+                "lot,variant,terms\n17,dumbo,bows\n\nbidder,key\n3,000102030405060708090a0b0c0d0e0f\n\
+                 8,101112131415161718191a1b1c1d1e1f\n\nenvelope\n00\n",
+                "line,answer\n9,8\n\nlot,bidder,amount\n",
+            ),
+            (
+                "lot,variant,terms\n0,jumbo,\n\nbidder,key\n0,000102030405060708090a0b0c0d0e0f\n\nenvelope\n",
+                "line,answer\n\nlot,bidder,amount\n",
+            ),
+            (
+                "lot,variant,terms\n4294967295,delirium,a,b,,c\r\n\nbidder,key\n4294967295,ffffffffffffffffffffffffffffffff\n\
+                 1,000102030405060708090a0b0c0d0e0f\n\nenvelope\n00\nabcdef0123456789\n",
+                "line,answer\n9,8\n10,8\n\nlot,bidder,amount\n",
+            ),
+            (
+                "lot,variant,terms\n1,dumbo,,\n\nbidder,key\n9,000102030405060708090a0b0c0d0e0f\n\nenvelope\n",
+                "line,answer\n\nlot,bidder,amount\n",
+            ),
         ],
-    );
+    )
+}
+
+// In each variant a genuine envelope, the same again, and that for another lot: the amounts are 250,000 cents, the limit, and one cent.
+#[test]
+fn a_standing_amount_is_on_the_page(rt: HostRuntime) -> Result<(), Fail> {
+    accepts(
+        &rt,
+        &[
+            (
+                "lot,variant,terms\n17,dumbo,bows\n\nbidder,key\n3,000102030405060708090a0b0c0d0e0f\n\nenvelope\n\
+                 0000001100000003000000011e5e336d6208658d1232ad445787804e4592808a040730184ff08b8c5642104bee455e93471c\
+                 c4e6498ab8161cbecfa758b8b3b2914d313eabbe700e0207d0410b740ec7898feaab\n\
+                 0000001100000003000000011e5e336d6208658d1232ad445787804e4592808a040730184ff08b8c5642104bee455e93471c\
+                 c4e6498ab8161cbecfa758b8b3b2914d313eabbe700e0207d0410b740ec7898feaab\n\
+                 0100001100000003000000011e5e336d6208658d1232ad445787804e4592808a040730184ff08b8c5642104bee455e93471c\
+                 c4e6498ab8161cbecfa758b8b3b2914d313eabbe700e0207d0410b740ec7898feaab\n",
+                "line,answer\n8,0\n9,11\n10,9\n\nlot,bidder,amount\n17,3,250000\n",
+            ),
+            (
+                "lot,variant,terms\n17,jumbo,bows\n\nbidder,key\n3,000102030405060708090a0b0c0d0e0f\n\nenvelope\n\
+                 000000110000000300000001726f8eec159620454b2ee49b8153c96a0a4144972d1d689a51f35e8363942a9d4f47d5adeb85\
+                 8b8da913481aa1bd1f53b237f29cb2ebb4ac721c29ea225bf12b97dd1d9886254a0b\n\
+                 000000110000000300000001726f8eec159620454b2ee49b8153c96a0a4144972d1d689a51f35e8363942a9d4f47d5adeb85\
+                 8b8da913481aa1bd1f53b237f29cb2ebb4ac721c29ea225bf12b97dd1d9886254a0b\n\
+                 010000110000000300000001726f8eec159620454b2ee49b8153c96a0a4144972d1d689a51f35e8363942a9d4f47d5adeb85\
+                 8b8da913481aa1bd1f53b237f29cb2ebb4ac721c29ea225bf12b97dd1d9886254a0b\n",
+                "line,answer\n8,0\n9,11\n10,9\n\nlot,bidder,amount\n17,3,999999999999\n",
+            ),
+            (
+                "lot,variant,terms\n17,delirium,bows\n\nbidder,key\n3,000102030405060708090a0b0c0d0e0f\n\nenvelope\n\
+                 0000001100000003000000018d1984eca91a80eb63f6c3d417b1fa4bc21f91e0d0c4f9e830ca99dd3bffce00c060244fd129\
+                 6db0acf80af2b0af33687988d2325d96091e43b4fbb3c90cd50b3b01761c546357fdba4de01803843f6f\n\
+                 0000001100000003000000018d1984eca91a80eb63f6c3d417b1fa4bc21f91e0d0c4f9e830ca99dd3bffce00c060244fd129\
+                 6db0acf80af2b0af33687988d2325d96091e43b4fbb3c90cd50b3b01761c546357fdba4de01803843f6f\n\
+                 0100001100000003000000018d1984eca91a80eb63f6c3d417b1fa4bc21f91e0d0c4f9e830ca99dd3bffce00c060244fd129\
+                 6db0acf80af2b0af33687988d2325d96091e43b4fbb3c90cd50b3b01761c546357fdba4de01803843f6f\n",
+                "line,answer\n8,0\n9,11\n10,9\n\nlot,bidder,amount\n17,3,1\n",
+            ),
+        ],
+    )
 }
 
 #[test]
-fn the_form_of_the_lot(rt: HostRuntime) {
+fn the_form_of_the_lot(rt: HostRuntime) -> Result<(), Fail> {
     refuses(
         &rt,
         &[
@@ -72,15 +95,19 @@ fn the_form_of_the_lot(rt: HostRuntime) {
             ("lot,variant,terms\n99999999999999999999999,dumbo,\n", 22, 2),
             ("lot,variant,terms\n17,Dumbo,\n", 22, 2),
             ("lot,variant,terms\n17,,\n", 22, 2),
+            ("lot,variant,terms\n17, dumbo,\n", 22, 2),
+            ("lot,variant,terms\n17,dumbo,bows", 22, 2),
+            ("\nlot,variant,terms\n17,dumbo,bows\n", 22, 1),
+            ("lot,variant,terms\n17,dumbo,bows\n \n", 22, 3),
             ("lot,variant,terms\n17,dumbo,bows\n", 22, 3),
             ("lot,variant,terms\n17,dumbo,bows\nbidder,key\n", 22, 3),
             ("lot,variant,terms\r\n17,dumbo,bows\n", 22, 1),
         ],
-    );
+    )
 }
 
 #[test]
-fn the_form_of_the_bidders(rt: HostRuntime) {
+fn the_form_of_the_bidders(rt: HostRuntime) -> Result<(), Fail> {
     refuses(
         &rt,
         &[
@@ -94,6 +121,17 @@ fn the_form_of_the_bidders(rt: HostRuntime) {
                 22,
                 5,
             ),
+            (
+                "lot,variant,terms\n17,dumbo,\n\nbidder,key\n4294967296,000102030405060708090a0b0c0d0e0f\n",
+                22,
+                5,
+            ),
+            (
+                "lot,variant,terms\n17,dumbo,\n\nbidder,key\n3,000102030405060708090a0b0c0d0e0f,\n",
+                22,
+                5,
+            ),
+            ("lot,variant,terms\n17,dumbo,\n\nbidder,key\n3,\n", 22, 5),
             (
                 "lot,variant,terms\n17,dumbo,\n\nbidder,key\n3,000102030405060708090A0B0C0D0E0F\n",
                 22,
@@ -139,12 +177,23 @@ fn the_form_of_the_bidders(rt: HostRuntime) {
                 22,
                 6,
             ),
+            (
+                "lot,variant,terms\n17,dumbo,\n\nbidder,key\n3,000102030405060708090a0b0c0d0e0f\n3,000102030405060708090a0b0c0d0e0f",
+                22,
+                6,
+            ),
+            (
+                "lot,variant,terms\n17,dumbo,\n\nbidder,key\n3,000102030405060708090a0b0c0d0e0f\n\
+                 4,000102030405060708090a0b0c0d0e0f\n3,000102030405060708090a0b0c0d0e0f\n",
+                17,
+                7,
+            ),
         ],
-    );
+    )
 }
 
 #[test]
-fn the_form_of_the_envelopes(rt: HostRuntime) {
+fn the_form_of_the_envelopes(rt: HostRuntime) -> Result<(), Fail> {
     refuses(
         &rt,
         &[
@@ -169,6 +218,16 @@ fn the_form_of_the_envelopes(rt: HostRuntime) {
                 8,
             ),
             (
+                "lot,variant,terms\n17,dumbo,\n\nbidder,key\n3,000102030405060708090a0b0c0d0e0f\n\nenvelope\n0g\n",
+                22,
+                8,
+            ),
+            (
+                "lot,variant,terms\n17,dumbo,\n\nbidder,key\n3,000102030405060708090a0b0c0d0e0f\n\nenvelope\n00\r\n",
+                22,
+                8,
+            ),
+            (
                 "lot,variant,terms\n17,dumbo,\n\nbidder,key\n3,000102030405060708090a0b0c0d0e0f\n\nenvelope\n00\n\n",
                 22,
                 9,
@@ -189,7 +248,7 @@ fn the_form_of_the_envelopes(rt: HostRuntime) {
                 9,
             ),
         ],
-    );
+    )
 }
 
 #[test]
@@ -202,59 +261,76 @@ fn a_fault_tells_number_layer_and_line(rt: HostRuntime) {
     assert_eq!(rt; FileFault::TooLong.place(), Place::Line(0));
 }
 
-// A file with terms of some bytes, some bidders and some envelopes of one byte.
-fn file_of(rt: HostRuntime, terms: usize, bidders: u32, envelopes: usize) -> Result<Vec<u8>, Fail> {
-    let mut v = Vec::new(rt.alloc());
-    v.extend_from_slice(b"lot,variant,terms\n1,jumbo,")?;
-    for _ in 0..terms {
-        v.push(b',')?;
-    }
-    v.extend_from_slice(b"\n\nbidder,key\n")?;
-    for i in 0..bidders {
-        let name = format!(in rt.alloc(); "{i}")?;
-        v.extend_from_slice(name.as_bytes())?;
-        v.extend_from_slice(b",000102030405060708090a0b0c0d0e0f\n")?;
-    }
-    v.extend_from_slice(b"\nenvelope\n")?;
-    for _ in 0..envelopes {
-        v.extend_from_slice(b"00\n")?;
-    }
-    Ok(v)
-}
-
+// In a line the form goes before the limit of the terms, and a line before those behind it.
 #[test]
 fn terms_have_at_most_64_bytes(rt: HostRuntime) -> Result<(), Fail> {
-    let fits = file_of(rt.clone()?, 64, 1, 0)?;
-    assert_eq!(rt; refusal(fits.as_slice()), None);
-    let long = file_of(rt, 65, 1, 0)?;
-    assert_eq!(rt; refusal(long.as_slice()), Some((15, 2)));
+    let behind = "\n\nbidder,key\n3,000102030405060708090a0b0c0d0e0f\n\nenvelope\n";
+    let fits = terms_of(rt.alloc(), "1,jumbo,", 64, behind)?;
+    is_accepted(&rt, &fits, "line,answer\n\nlot,bidder,amount\n")?;
+    for (values, behind, number) in [
+        ("1,jumbo,", behind, 15),
+        ("1,jumbo,", "\nno empty line\n", 15),
+        ("01,jumbo,", behind, 22),
+        ("1,rambo,", behind, 22),
+        ("1,jumbo,", "", 22),
+    ] {
+        let long = terms_of(rt.alloc(), values, 65, behind)?;
+        is_refused(&rt, &long, number, 2)?;
+    }
     Ok(())
 }
 
+// In a line the form goes before the list, and there an equal bidder before the 65th.
 #[test]
 fn at_most_64_bidders(rt: HostRuntime) -> Result<(), Fail> {
-    let fits = file_of(rt.clone()?, 0, 64, 0)?;
-    assert_eq!(rt; refusal(fits.as_slice()), None);
-    let many = file_of(rt, 0, 65, 0)?;
-    assert_eq!(rt; refusal(many.as_slice()), Some((18, 69)));
+    let fits = bidders_then(rt.alloc(), 64, "\nenvelope\n")?;
+    is_accepted(&rt, &fits, "line,answer\n\nlot,bidder,amount\n")?;
+    for (next, number) in [
+        ("64,000102030405060708090a0b0c0d0e0f\n\nenvelope\n", 18),
+        ("63,000102030405060708090a0b0c0d0e0f\n\nenvelope\n", 17),
+        ("064,000102030405060708090a0b0c0d0e0f\n", 22),
+        ("64,000102030405060708090a0b0c0d0e0f", 22),
+    ] {
+        let many = bidders_then(rt.alloc(), 64, next)?;
+        is_refused(&rt, &many, number, 69)?;
+    }
     Ok(())
 }
 
+// The file of 20 bytes of terms and 10,888 envelopes of one byte has 32,768 bytes, and one more byte of terms is too much.
 #[test]
 fn a_file_has_at_most_32768_bytes(rt: HostRuntime) -> Result<(), Fail> {
-    let fits = file_of(rt.clone()?, 20, 1, 10888)?;
+    let mut behind = String::from_str(
+        rt.alloc(),
+        "\n\nbidder,key\n0,000102030405060708090a0b0c0d0e0f\n\nenvelope\n",
+    )?;
+    let mut printed = String::from_str(rt.alloc(), "line,answer\n")?;
+    for line in 8..10_896u32 {
+        behind.push_str("00\n")?;
+        write!(printed, "{line},8\n")?;
+    }
+    printed.push_str("\nlot,bidder,amount\n")?;
+    let fits = terms_of(rt.alloc(), "1,jumbo,", 20, &behind)?;
     assert_eq!(rt; fits.len(), 32768);
-    assert_eq!(rt; refusal(fits.as_slice()), None);
-    let long = file_of(rt, 21, 1, 10888)?;
+    is_accepted(&rt, &fits, &printed)?;
+    let long = terms_of(rt.alloc(), "1,jumbo,", 21, &behind)?;
     assert_eq!(rt; long.len(), 32769);
-    assert_eq!(rt; refusal(long.as_slice()), Some((23, 0)));
-    Ok(())
+    is_refused(&rt, &long, 23, 0)
+}
+
+#[test]
+fn the_size_goes_before_the_form(rt: HostRuntime) -> Result<(), Fail> {
+    let fits = vec![in rt.alloc(); b'x'; 32768]?;
+    is_refused(&rt, &fits, 22, 1)?;
+    let long = vec![in rt.alloc(); b'x'; 32769]?;
+    is_refused(&rt, &long, 23, 0)
 }
 
 #[test]
 fn bidders_are_gathered_by_rising_number(rt: HostRuntime) -> Result<(), Fail> {
     let file =
-        "lot,variant,terms\n17,delirium,bows, new\n\nbidder,key\n8,101112131415161718191a1b1c1d1e1f\n3,000102030405060708090a0b0c0d0e0f\n\nenvelope\n00\n";
+        "lot,variant,terms\n17,delirium,bows, new\n\nbidder,key\n8,101112131415161718191a1b1c1d1e1f\n\
+         3,000102030405060708090a0b0c0d0e0f\n\nenvelope\n00\n";
     let mut places = [NOBODY; 64];
     match gather(file.as_bytes(), &mut places) {
         Ok(g) => {

@@ -1,14 +1,9 @@
 -- What stands hangs on which envelopes were lodged, and not on their order or number.
 use Rattle.std.proofs.Common.{◌≡◌, ℕ, ◌↔◌, List, Some, None, Option, sym, refl, ap, ◌∙◌, arith}
-use Rattle.envelope.specs.Heads.{lot_of, bidder_of, sequence_of}
-use Rattle.room.specs.Sales.{Bytes, Sale, Genuine, Among}
+use Rattle.room.specs.Sales.{Bytes, Sale, Among, OneToAHead}
 use Rattle.room.proofs.Holding.{Held}
 
-abbrev pub OneEach : Sale → List Bytes → Type 0
-OneEach s es =
-    (e f : Bytes) → Among es e → Among es f → Genuine s e → Genuine s f → lot_of e ≡ lot_of f → bidder_of e ≡ bidder_of f → sequence_of e ≡ sequence_of f → e ≡ f
-
-module _ (s : Sale) (es fs : List Bytes) (same : (e : Bytes) → Among es e ↔ Among fs e) (one : OneEach s es) (b : ℕ) where
+module _ (s : Sale) (es fs : List Bytes) (same : (e : Bytes) → Among es e ↔ Among fs e) (one : OneToAHead s es) (b : ℕ) where
   pub same_held : (o u : Option Bytes) → Held s es b o → Held s fs b u → o ≡ u
   same_held None None h g = refl
   same_held None (Some f) h g =

@@ -3,9 +3,9 @@ use Rattle.std.proofs.Common.{◌≡◌, ◌↔◌, sym, refl, ap, ◌∙◌, su
 use mathlib.Core.Path.{fun_ext}
 use Rattle.std.specs.List.{AllZip}
 use Rattle.envelope.proofs.PenLaws.{pen_laws}
-use Rattle.room.specs.Sales.{Bytes, Among}
+use Rattle.room.specs.Sales.{Bytes, Among, OneToAHead}
 use Rattle.room.specs.Runs.{calls_of, answers_to_closing, History, sale, IsClosed, envelopes, Prints}
-use Rattle.room.specs.Promise.{OneToAHead, SameButForALetter, Promise}
+use Rattle.room.specs.Promise.{SameButForALetter, Promise}
 use Rattle.room.proofs.Law.{Taking, nothing, page_for, meetings}
 use Rattle.room.proofs.Order.{same_held}
 use Rattle.room.proofs.Secret.{secret}
@@ -14,7 +14,7 @@ use Rattle.room.proofs.Amounts.{Left, pages_tell}
 use Rattle.room.proofs.Histories.{lawful_sale, same_meetings, its_page, some_page, only_page, left_by, one_amount, unregistered}
 use Rattle.room.proofs.Occurring.{differ_in_a_letter, differ_in_order}
 
-order_proof : (x y : History) → IsClosed x → IsClosed y → sale x ≡ sale y → ((e : Bytes) → Among (envelopes x) e ↔ Among (envelopes y) e) → OneToAHead x → (p q : Bytes) → Prints x p → Prints y q → p ≡ q
+order_proof : (x y : History) → IsClosed x → IsClosed y → sale x ≡ sale y → ((e : Bytes) → Among (envelopes x) e ↔ Among (envelopes y) e) → OneToAHead (sale x) (envelopes x) → (p q : Bytes) → Prints x p → Prints y q → p ≡ q
 order_proof x y cx cy alike same one p q hp hq =
     let l = left_by x cx p hp in
     let m : Left (sale x) (envelopes y) q = subst (λ s. Left s (envelopes y) q) (sym alike) (left_by y cy q hq) in

@@ -2,26 +2,19 @@
 use Rattle.std.specs.Prelude.{◌≡◌, ℕ, ◌^◌, ◌<◌, ◌≤◌, true, ◌⊎◌, ◌↔◌, List, Ok, Result, ◌≢◌}
 use Rattle.std.specs.List.{AllZip}
 use Rattle.engine.specs.declared.variants.Variant.{Variant}
-use Rattle.envelope.specs.Heads.{lot_of, bidder_of, sequence_of}
 use Rattle.envelope.specs.Envelopes.{bid}
 use Rattle.envelope.specs.Calls.{bid_answer}
 use Rattle.envelope.specs.Takings.{Fresh, Takings, heads_given, NoTwoEqual}
 use Rattle.envelope.specs.declared.faults.EnvelopeFault.{EnvelopeFault}
 use Rattle.envelope.specs.declared.heads.Head.{Head}
 use Rattle.envelope.specs.declared.pens.Pen.{Pen}
-use Rattle.room.specs.Sales.{Bytes, Sale, Among, Standing, registered, key_of}
+use Rattle.room.specs.Sales.{Bytes, Sale, Among, OneToAHead, Standing, registered, key_of}
 use Rattle.room.specs.Calls.{Call, Lodging}
 use Rattle.room.specs.Runs.{History, sale, IsClosed, envelopes, GenuineIn, Stands, Prints, calls_of, answers_to_closing}
 
 -- Exactly one x is such that P x.
 abbrev pub ExactlyOne : {X : Type 0} → (X → Type 0) → Type 0
 ExactlyOne {X} P = (x : X) × P x × ((y : X) → P y → y ≡ x)
-
--- No two different genuine envelopes among those lodged carry one head, that is one lot, bidder and sequence.
-abbrev pub OneToAHead : History → Type 0
-OneToAHead x =
-    (e f : Bytes) → Among (envelopes x) e → Among (envelopes x) f → GenuineIn x e → GenuineIn x f
-    → lot_of e ≡ lot_of f → bidder_of e ≡ bidder_of f → sequence_of e ≡ sequence_of f → e ≡ f
 
 -- The envelope e was made by a granted sealing, of some amount and note, under the terms and variant of a sale, the head of a lot, a bidder and a
 -- sequence (numbers of 32 bits), and the registered key of that bidder.
@@ -64,7 +57,7 @@ pub record RoomsThatDifferInOrder (v : Variant) : Type 0 where
   pub alike : sale x ≡ sale y
   pub lists_differ : calls_of x.meetings ≡ calls_of y.meetings → ⊥
   pub same_envelopes : (e : Bytes) → Among (envelopes x) e ↔ Among (envelopes y) e
-  pub one_to_a_head : OneToAHead x
+  pub one_to_a_head : OneToAHead (sale x) (envelopes x)
   pub bidder : ℕ
   pub amount : ℕ
   pub above_0 : 0 < amount
@@ -79,7 +72,7 @@ pub record Promise : Type 0 where
   -- equal pages if no two different genuine ones among them carry one head.
   pub order_and_repetition_do_not_matter :
       (x y : History) → IsClosed x → IsClosed y → sale x ≡ sale y → ((e : Bytes) → Among (envelopes x) e ↔ Among (envelopes y) e)
-      → OneToAHead x → (p q : Bytes) → Prints x p → Prints y q → p ≡ q
+      → OneToAHead (sale x) (envelopes x) → (p q : Bytes) → Prints x p → Prints y q → p ≡ q
   -- No two heads that one pen gave since its making are equal, after every list of takings, granted or refused.
   pub no_two_heads_of_one_pen_are_equal :
       (lot : ℕ) (terms : Bytes) (p q : Pen) (answers : List (Result Head EnvelopeFault)) → Fresh lot terms p → Takings p answers q

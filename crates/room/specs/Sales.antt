@@ -50,6 +50,11 @@ pub record Genuine (s : Sale) (e : Bytes) : Type 0 where
 abbrev pub Among : List Bytes → Bytes → Type 0
 Among es e = (i : ℕ) × (slice_get es i ≡ Some e)
 
+-- No two different genuine envelopes among those lodged carry one head, that is one lot, bidder and sequence.
+abbrev pub OneToAHead : Sale → List Bytes → Type 0
+OneToAHead s es =
+    (e f : Bytes) → Among es e → Among es f → Genuine s e → Genuine s f → lot_of e ≡ lot_of f → bidder_of e ≡ bidder_of f → sequence_of e ≡ sequence_of f → e ≡ f
+
 -- A bidder's standing envelope is the genuine one of highest sequence among those lodged, the earliest if several have that sequence.
 pub record Standing (s : Sale) (es : List Bytes) (b : ℕ) (e : Bytes) : Type 0 where
   pub place : ℕ

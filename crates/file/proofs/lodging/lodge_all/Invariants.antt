@@ -1,15 +1,14 @@
 use Rattle.std.proofs.Common.{◌≡◌, length, vec_items}
-use Rattle.room.specs.Rooms.{contents}
 use Rattle.file.specs.Contents.{said_in, envelopes_in}
 use Rattle.file.specs.Read.{left_of}
 use Rattle.file.specs.Stepwise.{GoesThrough}
 use Rattle.file.proofs.lodging.lodge_all.Given as goal
 
 abbrev pub invariant-loop-line : goal.invariant-loop-line
-invariant-loop-line l =
-    GoesThrough (vec_items l.initial.out) (contents l.initial.room.engine.variant l.initial.room.inner.now) (envelopes_in (said_in l.text))
-    (vec_items l.out) (contents l.initial.room.engine.variant l.room.inner.now) (envelopes_in (left_of l.reader))
+invariant-loop-line g l =
+    GoesThrough (g.E.Engine.kind l.initial.room.engine) (vec_items l.initial.out) l.initial.room.inner.now (envelopes_in (said_in l.text))
+    (vec_items l.out) l.room.inner.now (envelopes_in (left_of l.reader))
     × (l.room.engine ≡ l.initial.room.engine) × (l.room.inner.ghost_name ≡ l.initial.room.inner.ghost_name)
 
 abbrev pub decreases-loop-line : goal.decreases-loop-line
-decreases-loop-line l = length l.reader.rest.now
+decreases-loop-line g l = length l.reader.rest.now

@@ -34,6 +34,7 @@ returns-in_err-line c =
     record {
       sale = ap (λ r. sale_by r c.loop-line.self.places.now) e ∙ over_broken (gathered (sale_so_far c.loop-line.self)) L f _ g c.loop-line.invariant.sale;
       register = over_broken (enrolled_in (sale_so_far c.loop-line.self).register) L f _ g c.loop-line.invariant.register;
+      few = rw e tt;
       keeps = c.loop-line.invariant.keeps;
       same_places = c.loop-line.invariant.same_places;
     }
@@ -50,6 +51,7 @@ returns-in_err-take_in c =
       sale = ap (λ r. sale_by r c.take_in.new.self.places.now) e ∙ sym (c.in_err-take_in.ensures.gathers rest)
           ∙ over_first (gathered (sale_so_far c.loop-line.self)) L rest i _ g c.read.ensures.leaves c.loop-line.invariant.sale;
       register = sym (c.in_err-take_in.ensures.enrols rest) ∙ over_first (enrolled_in (sale_so_far c.loop-line.self).register) L rest i _ g c.read.ensures.leaves c.loop-line.invariant.register;
+      few = rw e tt;
       keeps = keeps_on _ _ _ c.loop-line.invariant.keeps c.take_in.ensures.keeps;
       same_places = c.take_in.ensures.same_places ∙ c.loop-line.invariant.same_places;
     }
@@ -63,6 +65,7 @@ returns c =
     record {
       sale = over_ended (gathered (sale_so_far c.loop-line.self)) L _ g c.loop-line.invariant.sale;
       register = over_ended (enrolled_in (sale_so_far c.loop-line.self).register) L _ g c.loop-line.invariant.register;
+      few = c.loop-line.self.few;
       keeps = c.loop-line.invariant.keeps;
       same_places = c.loop-line.invariant.same_places;
     }

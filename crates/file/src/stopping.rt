@@ -12,7 +12,7 @@ pub(crate) enum Stopped {
     // The file is refused.
     Refused(FileFault),
     // There is not enough memory.
-    Memory,
+    Memory(AllocError),
 }
 
 impl From<FileFault> for Stopped {
@@ -32,9 +32,9 @@ impl From<RoomFault> for Stopped {
 }
 
 impl From<AllocError> for Stopped {
-    ghost from_gives = { λ _ r. r ≡ for_memory };
+    ghost from_gives = { λ e r. r ≡ for_memory e };
 
-    fn from(_e: AllocError) -> Stopped {
-        Stopped::Memory
+    fn from(e: AllocError) -> Stopped {
+        Stopped::Memory(e)
     }
 }

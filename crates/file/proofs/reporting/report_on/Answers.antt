@@ -1,0 +1,17 @@
+use Rattle.std.proofs.Common.{◌≡◌, sym, ap, ◌∙◌, subst}
+use Rattle.room.specs.Runs.{History, Prints}
+use Rattle.file.specs.Contents.{Contents}
+use Rattle.file.specs.Holding.{Held}
+use Rattle.file.specs.Report.{report_by, refusal_by, page_in}
+use Rattle.file.proofs.reporting.report_on.Goals as goal
+
+pub returns-in-Ok : goal.returns-in-Ok
+returns-in-Ok c =
+    let h = c.in-Ok.ensures in
+    record {
+      prints = h.2.prints ∙ ap report_by (sym h.1);
+      refuses = ap refusal_by (sym h.1);
+      held = λ d e.
+          let same : h.0 ≡ d = cc in
+          subst (λ (z : Contents). (x : History) × Held z x × Prints x (page_in z)) same h.2.held;
+    }

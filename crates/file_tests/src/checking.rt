@@ -1,0 +1,67 @@
+// What is checked of a file: that gathering it and its report take it in the same way, and what is printed.
+use fault::Fault;
+use file::{FileFault, gather, report_on};
+use room::RegisterEntry;
+use std::process::Abort;
+use std::test::Fail;
+
+pub const NOBODY: RegisterEntry = RegisterEntry {
+    bidder: 0,
+    key: [0; 16],
+};
+
+// What a fault tells: its number and its line.
+fn told(f: FileFault) -> (u8, u32) {
+    (f.number(), f.line())
+}
+
+// Checks what is printed of a file, and the number and the line that refuse it, if any do.
+fn tells(
+    rt: &(impl Abort + AllocGlobal),
+    file: &[u8],
+    printed: &str,
+    refusal: Option<(u8, u32)>,
+) -> Result<(), Fail> {
+    let mut places = [NOBODY; 64];
+    assert_eq!(rt; gather(file, &mut places).err().map(told), refusal);
+    let made = report_on(rt.alloc(), file)?;
+    assert_eq!(rt; made.refusal.map(told), refusal);
+    assert_eq!(rt; made.bytes.as_slice(), printed.as_bytes());
+    Ok(())
+}
+
+// Checks that a file is accepted, and what is printed of it.
+pub fn is_accepted(
+    rt: &(impl Abort + AllocGlobal),
+    file: &[u8],
+    printed: &str,
+) -> Result<(), Fail> {
+    tells(rt, file, printed, None)
+}
+
+// Checks the number and the line that refuse a file.
+pub fn is_refused(
+    rt: &(impl Abort + AllocGlobal),
+    file: &[u8],
+    number: u8,
+    line: u32,
+) -> Result<(), Fail> {
+    let printed = format!(in rt.alloc(); "refusal,line\n{number},{line}\n")?;
+    tells(rt, file, &printed, Some((number, line)))
+}
+
+// Checks that each file of a table is accepted, and what is printed of it.
+pub fn accepts(rt: &(impl Abort + AllocGlobal), table: &[(&str, &str)]) -> Result<(), Fail> {
+    for (file, printed) in table {
+        is_accepted(rt, file.as_bytes(), printed)?;
+    }
+    Ok(())
+}
+
+// Checks each file of a table against the number and the line that refuse it.
+pub fn refuses(rt: &(impl Abort + AllocGlobal), table: &[(&str, u8, u32)]) -> Result<(), Fail> {
+    for (file, number, line) in table {
+        is_refused(rt, file.as_bytes(), *number, *line)?;
+    }
+    Ok(())
+}
