@@ -14,6 +14,7 @@ use interleaved::Interleaved;
 use measures::{measure_engine, measure_texts};
 use std::env;
 
+// Here and below the name of an engine goes beside it: a struct of both would be made for each call alone, and be taken apart in it.
 fn agreements(rt: &HostRuntime) -> anyhow::Result<()> {
     run_agreement(rt, "Dumbo, circuit", &Circuit::Dumbo)?;
     run_agreement(rt, "Jumbo, circuit", &Circuit::Jumbo)?;

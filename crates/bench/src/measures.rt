@@ -1,6 +1,7 @@
 // How long blocks and sealed texts take: the best of many short runs, in nanoseconds.
 use cipher::{seal, tag_bytes};
 use engine::Engine;
+use envelope::LETTER_BYTES;
 use std::time::Instant;
 
 const RUNS: u32 = 2000;
@@ -8,10 +9,8 @@ const RUNS: u32 = 2000;
 const KEY: [u8; 16] = [7; 16];
 
 const NONCE: [u8; 12] = [5; 12];
-// Terms of sixteen bytes, and a letter of 64.
-const TERMS: [u8; 16] = [3; 16];
 
-const LETTER_BYTES: usize = 64;
+const TERMS: [u8; 16] = [3; 16];
 
 // The time of a call, by the best of many runs of so many calls.
 fn time_of<F: FnMut()>(rt: &HostRuntime, runs: u32, calls: u32, mut call: F) -> anyhow::Result<u128>

@@ -1,7 +1,7 @@
 // Bids of one pen: their envelopes have one length, pass the check of their tags, and open to their amounts; and what is refused.
 #![tactic(auto)]
 
-use cipher::check;
+use cipher::{KEY_BYTES, check};
 use engine::{Plain, Variant};
 use envelope::{EnvelopeFault, HEAD_BYTES, LETTER_BYTES, Pen, amount_in, parts_of, seal_bid};
 use fault::Fault;
@@ -11,7 +11,7 @@ const ENGINE: Plain = Plain {
     variant: Variant::Dumbo,
 };
 
-const KEY: [u8; 16] = [7; 16];
+const KEY: [u8; KEY_BYTES] = [7; KEY_BYTES];
 
 const TERMS: &[u8] = b"bows";
 
@@ -62,7 +62,7 @@ fn bids() -> [Bid<'static>; 7] {
             ..usual
         },
         Bid {
-            key: &KEY[0..15],
+            key: &KEY[0..KEY_BYTES - 1],
             ..usual
         },
         Bid {

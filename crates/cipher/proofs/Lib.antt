@@ -1,3 +1,4 @@
+pub mod Bytes
 pub mod XorLaws
 pub mod StreamLaws
 pub mod MaskLaws

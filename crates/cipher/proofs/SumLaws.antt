@@ -1,7 +1,7 @@
 -- The loop over groups of parts that go into the tag sum.
 use Rattle.std.proofs.Common.{◌≡◌, ℕ, zero, suc, ◌+◌, ◌-◌, ◌*◌, ◌/◌, ◌%◌, ◌<◌, ◌≤◌, min, List, [], ◌∷◌, ◌++◌, length, take, drop, replicate, sym, refl, ap, ◌∙◌, ap₂, add-zero, add-mul, suc-mul, zero-add, arith}
-use native.Mathlib.Nat.{add-mul-div_right, div-lt_iff_lt-mul}
-use Rattle.std.proofs.Math.Nat.{add-mod_left, mod-le, mod-eq_of_lt}
+use native.Mathlib.Nat.{add-mul-div_right}
+use Rattle.std.proofs.Math.Nat.{add-mod_left, mod-le}
 use Rattle.std.proofs.lemmas.List.{length-append, length-drop, drop-drop, drop_at, drop-append-le, take-append-le, append-nil, append_assoc}
 use Rattle.std.proofs.lemmas.Nat.{mul-le}
 use Rattle.engine.specs.Permutation.{block_size}
@@ -81,19 +81,3 @@ rest_turn text chunk left rest size after et ec ea er =
     let fewer : length text - length text % size ≡ size + (length left - length left % size) = omega (arith, mod-le (length left) size) in
     er ∙ ap₂ drop fewer et ∙ sym (drop-drop (length left - length left % size) size (chunk ++ left))
     ∙ ap (drop (length left - length left % size)) (drop_at chunk left size ec) ∙ ap (λ z. drop (length left - length left % z) left) (sym ea)
-
--- Where no chunk is left, that is all that is left, and it has four parts at most.
-pub absorb_rest : (v : Variant) (m b text rest sum : List ℕ) (j size : ℕ) → size ≡ 4 * block_size v → length text < size
-    → rest ≡ drop (length text - length text % size) text
-    → sum ≡ absorbed v m j (min (parts (block_size v) (length rest + 1)) 4) 0 (closed rest) b
-    → sum ≡ absorbed v m j (parts (block_size v) (length (closed text))) 0 (closed text) b
-absorb_rest v m b text rest sum j size eg h er es =
-    let n = block_size v in
-    let all : length text % size ≡ length text = mod-eq_of_lt h in
-    let none : length text - length text % size ≡ 0 = omega arith in
-    let whole : rest ≡ text = er ∙ ap (λ k. drop k text) none in
-    let below : length text + 1 + (n - 1) < 5 * n = omega (arith, wide v) in
-    let few : parts n (length text + 1) < 5 = (div-lt_iff_lt-mul (wide v)).1 below in
-    let least : min (parts n (length text + 1)) 4 ≡ parts n (length text + 1) = omega arith in
-    es ∙ ap (λ r. absorbed v m j (min (parts n (length r + 1)) 4) 0 (closed r) b) whole
-    ∙ ap (λ k. absorbed v m j k 0 (closed text) b) (least ∙ ap (parts n) (sym (length-append text (1 ∷ []))))

@@ -1,5 +1,5 @@
 -- Exclusive or of lists of bytes, place by place and part by part.
-use Rattle.std.proofs.Common.{◌≡◌, ℕ, zero, suc, ◌<◌, ◌≤◌, min, Bool, true, false, eqb, List, [], ◌∷◌, ◌++◌, length, get_or, take, set, Decides, fold, sym, refl, ap, ◌∙◌, subst, ap₂, ⊎_elim, arith, eqb-true}
+use Rattle.std.proofs.Common.{◌≡◌, ℕ, zero, suc, ◌<◌, ◌≤◌, min, Bool, true, false, eqb, List, [], ◌∷◌, ◌++◌, length, get_or, take, set, Decides, fold, sym, refl, ap, ◌∙◌, ap₂, ⊎_elim, arith, eqb-true}
 use Rattle.std.specs.List.{zip}
 use lib.Bits.{bit_xor, bit_or, xor_zero_r, xor_zero_l, xor_assoc, xor_self, or_add_and, xor_add_and}
 use Rattle.std.proofs.lemmas.List.{take_all}
@@ -7,9 +7,6 @@ use Rattle.std.proofs.lemmas.Bool.{cases_lt}
 use Rattle.std.specs.Str.{bytes_eq}
 use Rattle.std.proofs.lemmas.Slice.Eq.{bytes_eq-Decides}
 use Rattle.cipher.specs.Blocks.{xored}
-
-false_not_true : false ≡ true → ⊥
-false_not_true e = let P : Bool → Type 0 = λ b. elim b [ true ↦ ⊥ | false ↦ Unit {0} ] in subst P e tt
 
 -- Two tests of one fact answer alike.
 pub decided_alike : (a b : Bool) (P : Type 0) → Decides a P → Decides b P → a ≡ b
@@ -92,6 +89,3 @@ same_tested a b l =
     let tests : Decides (eqb d 0) (a ≡ b) =
     (λ t. (same_from_fold a b 0 l (eqb-true d 0 t)).1, λ p. ap (λ z. eqb z 0) (ap (λ z. fold differing 0 (zip a z)) (sym p) ∙ fold_of_same a)) in
     decided_alike (eqb d 0) (bytes_eq a b) (a ≡ b) tests (bytes_eq-Decides a b)
-
-pub other_length : (a b : List ℕ) → (length a ≡ length b → ⊥) → false ≡ bytes_eq a b
-other_length a b n = decided_alike false (bytes_eq a b) (a ≡ b) ((λ t. absurd (false_not_true t)), (λ p. absurd (n (ap length p)))) (bytes_eq-Decides a b)

@@ -9,13 +9,14 @@ ghost use Rattle.cipher.specs.Views.{text_of, check_seen, open_seen, GivesBack};
 
 use crate::enciphering::Keyed;
 use crate::faults::CipherFault;
-use crate::sizes::{KEY_BYTES, MOST_BLOCK_BYTES, NONCE_BYTES, check_sizes, tag_bytes};
+use crate::sizes::{MOST_BLOCK_BYTES, NONCE_BYTES, check_sizes, tag_bytes};
 use crate::xor::equal;
 use big_endian::{number_of, put_number};
 use engine::{Engine, Plain, Variant};
 
 // A received text whose tag was found right, with the variant, key and nonce of its check. Only `check` makes one. It
-// moves, and cannot be let go: it is opened, or given up for the sealed text.
+// moves, and cannot be let go: it is opened, or given up for the sealed text. By a rule of the project it holds key and nonce as plain
+// numbers and no array.
 pub struct Checked<'a> {
     sealed: &'a [u8],
     variant: Variant,
@@ -44,7 +45,8 @@ pub fn check<'a, E: Engine>(
     Ok(Checked {
         sealed,
         variant,
-        key: number_of(key),
+        key: u128::from_be_bytes(*lawful.key),
+        // A nonce has twelve bytes, and no type of numbers has so many for `from_be_bytes`.
         nonce: number_of(nonce),
     })
 }
@@ -115,7 +117,8 @@ impl<'a> Checked<'a> {
         bytes
     }
 
-    // Writes what the text opens to, by the engine lent if it is of the text's variant, and else by the plain one.
+    // Writes what the text opens to. By a rule of the project it is opened with its own variant's plain engine where the engine lent is of
+    // another variant.
     fn open_into<E: Engine>(&self, engine: &E, out: &mut [u8]) -> Result<(), CipherFault>
         ensures answer { result ≡ open_answer (text_of self.now) out.old }
         ensures out { out.new ≡ left result (opened (text_of self.now)) out.old }
@@ -139,10 +142,8 @@ impl<'a> Checked<'a> {
         ensures granted { result ≡ Ok tt }
         ensures out { out.new ≡ opened (text_of self.now) }
     {
-        let mut key = [0u8; KEY_BYTES];
         let mut nonce = [0u8; NONCE_BYTES];
-        put_number(self.key, &mut key);
         put_number(self.nonce, &mut nonce);
-        Keyed::new(engine, &key)?.stream(&nonce, self.sealed, out)
+        Keyed::new(engine, &self.key.to_be_bytes())?.stream(&nonce, self.sealed, out)
     }
 }

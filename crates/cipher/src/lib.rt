@@ -16,5 +16,5 @@ mod xor;
 pub use checked::{Checked, check};
 pub use faults::CipherFault;
 pub use sealing::seal;
-pub use sizes::{MOST_TAG_BYTES, check_key, tag_bytes};
+pub use sizes::{KEY_BYTES, MOST_TAG_BYTES, check_key, tag_bytes};
 pub use theorems::cipher_laws_stand;

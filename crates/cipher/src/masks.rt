@@ -1,5 +1,7 @@
 // The masks: phi1 and phi2 of a block, and four masks side by side, each stepped from the one before.
-// Variant and block go along as two and not as one struct: a block is bytes, of which the variant says how many count, and the variant is the engine's.
+// Variant and block go along as two and not as one struct: a block is bytes, of which the variant says how many count, and the variant is
+// the engine's. So do a running mask and j, and a running mask and the nonce: a struct of both would be lent to be stepped, and each contract
+// would have to say besides that j, or the nonce, stays. Each says how far the mask is stepped, since the next part or group goes on from there.
 ghost use Rattle.std.specs.Prelude.{◌≡◌, ℕ, ◌*◌, take};
 ghost use Rattle.engine.specs.Permutation.{block_size};
 ghost use Rattle.cipher.specs.Blocks.{repeated, stream};
@@ -9,6 +11,13 @@ ghost use Rattle.cipher.specs.Groups.{held};
 use crate::sizes::{Block, Blocks};
 use crate::xor::xor_into;
 use engine::Variant;
+
+// How often phi2 is applied to the masks: of associated data, of the key stream, and of the sealed text in the tag.
+pub(crate) const ASSOCIATED_TURNS: usize = 0;
+
+pub(crate) const STREAM_TURNS: usize = 1;
+
+pub(crate) const SEALED_TURNS: usize = 2;
 
 // The byte that phi1 appends.
 fn appended_byte(variant: Variant, block: &Block) -> u8
@@ -51,7 +60,8 @@ pub(crate) fn mask(variant: Variant, running: &Block, j: usize) -> Block
     block
 }
 
-// Writes four masks side by side, from the running one on, and steps the running one past them.
+// Writes four masks side by side, from the running one on, and steps the running one past them. It stands beside `mask` as
+// `encipher_four` does beside `encipher`, where the reason is.
 pub(crate) fn four_masks(variant: Variant, running: &mut Block, j: usize, masks: &mut Blocks)
     ensures masks { take (4 * block_size variant) masks.new ≡ stream (λ q. mask_of variant (held variant running.old) q j) 4 0 }
     ensures running { held variant running.new ≡ repeated (first_phi variant) 4 (held variant running.old) }

@@ -9,7 +9,8 @@ ghost use Rattle.cipher.specs.declared.faults.CipherFault.TheVariants.{KeyLength
 use crate::faults::CipherFault;
 use engine::Variant;
 
-pub(crate) const KEY_BYTES: usize = 16;
+// The bytes of a key.
+pub const KEY_BYTES: usize = 16;
 
 pub(crate) const NONCE_BYTES: usize = 12;
 
@@ -22,8 +23,10 @@ pub(crate) const MOST_GROUP_BYTES: usize = 4 * MOST_BLOCK_BYTES;
 // The bytes of the longest tag of all variants.
 pub const MOST_TAG_BYTES: usize = 16;
 
-// Room for a block of any variant, and for four neighbouring ones. The first bytes hold them, and the others say nothing. There is
-// no heap here, and how long an engine's blocks are is known only when it runs: so blocks are arrays with room for the longest.
+// Room for a block of any variant, and for four neighbouring ones. The first bytes hold them, and the others say nothing: how long an
+// engine's blocks are is known only when it runs. They are arrays with room for the longest, which ask nothing of their callers. The kit's
+// `arrayvec`, which has no heap either, is no plainer: tried with phi1, each index and each push stays open until the function asks that the
+// vector be as long as the engine's blocks, and so would each function that takes a block.
 pub(crate) type Block = [u8; MOST_BLOCK_BYTES];
 
 pub(crate) type Blocks = [u8; MOST_GROUP_BYTES];

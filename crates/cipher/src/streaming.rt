@@ -8,13 +8,10 @@ ghost use Rattle.cipher.specs.Groups.{held, group};
 
 use crate::enciphering::Keyed;
 use crate::faults::CipherFault;
-use crate::masks::{mask, phi1};
+use crate::masks::{STREAM_TURNS, mask, phi1};
 use crate::sizes::{Block, Blocks, MOST_BLOCK_BYTES, MOST_GROUP_BYTES, NONCE_BYTES};
 use crate::xor::xor_into;
 use engine::Engine;
-
-// How often phi2 is applied to the masks of the key stream.
-const TURNS: usize = 1;
 
 // Writes a block four times side by side.
 fn copies(block: &[u8], blocks: &mut Blocks)
@@ -43,12 +40,13 @@ impl<'e, E: Engine> Keyed<'e, E> {
     {
         let variant = self.engine.variant();
         *block = *nonce;
-        self.encipher(&mask(variant, running, TURNS), block)?;
+        self.encipher(&mask(variant, running, STREAM_TURNS), block)?;
         phi1(variant, running);
         Ok(())
     }
 
-    // Writes four blocks of the key stream, from the running mask on, and steps the mask past them.
+    // Writes four blocks of the key stream, from the running mask on, and steps the mask past them. It stands beside `key_block` as
+    // `encipher_four` does beside `encipher`, where the reason is.
     fn key_blocks(
         &self,
         nonce: &Block,
@@ -60,7 +58,7 @@ impl<'e, E: Engine> Keyed<'e, E> {
         ensures running { let v = E.kind self.now.engine.now in held v running.new ≡ repeated (first_phi v) 4 (held v running.old) }
     {
         copies(&nonce[0..self.engine.variant().block_bytes()], blocks);
-        self.encipher_four(running, TURNS, blocks)
+        self.encipher_four(running, STREAM_TURNS, blocks)
     }
 
     // Writes a part of at most four blocks under the key stream: four blocks of it, or one where that is enough.

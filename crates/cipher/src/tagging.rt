@@ -8,7 +8,7 @@ ghost use Rattle.cipher.specs.Groups.{held};
 use crate::absorbing::load;
 use crate::enciphering::Keyed;
 use crate::faults::CipherFault;
-use crate::masks::phi1;
+use crate::masks::{ASSOCIATED_TURNS, SEALED_TURNS, phi1};
 use crate::sizes::{Block, NONCE_BYTES};
 use engine::{Engine, Variant};
 
@@ -40,7 +40,7 @@ impl<'e, E: Engine> Keyed<'e, E> {
         }
         let mut second = self.first;
         phi1(variant, &mut second);
-        self.absorb(second, 0, &associated[within..], sum)
+        self.absorb(second, ASSOCIATED_TURNS, &associated[within..], sum)
     }
 
     // Writes a block that begins with the tag of a sealed text.
@@ -55,7 +55,7 @@ impl<'e, E: Engine> Keyed<'e, E> {
         ensures block { let v = E.kind self.now.engine.now in let first = held v self.now.first in held v block.new ≡ enciphered v first (tag_sum v first nonce.now associated.now sealed.now) 0 0 }
     {
         self.sum_associated(nonce, associated, block)?;
-        self.absorb(self.first, 2, sealed, block)?;
+        self.absorb(self.first, SEALED_TURNS, sealed, block)?;
         self.encipher(&self.first, block)
     }
 }

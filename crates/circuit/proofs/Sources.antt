@@ -4,7 +4,7 @@ use Rattle.std.proofs.lemmas.Nat.{mod_below}
 use Rattle.std.proofs.lemmas.Bool.{cases_lt, lt-ltb, le-ltb, eqb-true, false≢true}
 use Rattle.engine.specs.Bits.{bit}
 use Rattle.circuit.specs.Planes.{Bits, word_bit, InRows, Unzipped}
-use Rattle.circuit.specs.Moves.{Lowered, Raised, Crossed}
+use Rattle.circuit.specs.Moves.{Masked, Crossed}
 use Rattle.circuit.proofs.Decide.{all_of, each_of}
 use Rattle.circuit.proofs.Fours.{by_four}
 
@@ -66,15 +66,17 @@ moved_up f s b n k h a =
     (λ l. ap (λ t. cond t false (b (k - n))) (le-ltb k n l) ∙ a.at (k - n) (omega arith) ∙ ap (λ t. f (cond t none (s (k - n)))) (sym (le-ltb k n l)))
     (cases_lt k n)
 
-pub down_from : {f : Bits} {s : ℕ → ℕ} {b r : Bits} {n m : ℕ} → From f s b → Lowered n m b r
-    → From f (λ k. cond (bit m k) (lower n s k) none) r
-down_from {f} {s} {b} {r} {n} {m} a e =
-    record { void = a.void; at = λ k h. e.at k h ∙ ap (λ x. x && bit m k) (moved_down f s b n k a) ∙ kept (bit m k) f (lower n s k) a.void }
+pub down_from : {f : Bits} {s : ℕ → ℕ} {b r : Bits} (n : ℕ) → From f s b → ((k : ℕ) → k < 64 → r k ≡ cond (ltb (n + k) 64) (b (n + k)) false)
+    → From f (lower n s) r
+down_from {f} {s} {b} {r} n a e = record { void = a.void; at = λ k h. e k h ∙ moved_down f s b n k a }
 
-pub up_from : {f : Bits} {s : ℕ → ℕ} {b r : Bits} {n m : ℕ} → From f s b → Raised n m b r
-    → From f (λ k. cond (bit m k) (higher n s k) none) r
-up_from {f} {s} {b} {r} {n} {m} a e =
-    record { void = a.void; at = λ k h. e.at k h ∙ ap (λ x. x && bit m k) (moved_up f s b n k h a) ∙ kept (bit m k) f (higher n s k) a.void }
+pub up_from : {f : Bits} {s : ℕ → ℕ} {b r : Bits} (n : ℕ) → From f s b → ((k : ℕ) → k < 64 → r k ≡ cond (ltb k n) false (b (k - n)))
+    → From f (higher n s) r
+up_from {f} {s} {b} {r} n a e = record { void = a.void; at = λ k h. e k h ∙ moved_up f s b n k h a }
+
+pub masked_from : {f : Bits} {s : ℕ → ℕ} {b r : Bits} {m : ℕ} → From f s b → Masked m b r → From f (λ k. cond (bit m k) (s k) none) r
+masked_from {f} {s} {b} {r} {m} a e =
+    record { void = a.void; at = λ k h. e.at k h ∙ ap (λ x. x && bit m k) (a.at k h) ∙ kept (bit m k) f (s k) a.void }
 
 -- at most one of two places gives a bit
 joined : (f : Bits) (i j : ℕ) (x y : Bool) → f none ≡ false → eqb i none ≡ x → eqb j none ≡ y → (x || y) ≡ true → (f i || f j) ≡ f (cond x j i)

@@ -59,8 +59,8 @@ pub(crate) fn load<S: Spongent, W: Word>(blocks: &[u8]) -> Planes<W>
 }
 
 // Byte k of a block in words: what word t has of it, and above that what the next word has.
-fn byte_at<S: Spongent>(ws: &[u64], k: usize) -> u8
-    requires { (length ws.now ≡ 5) × (k * 2 < S.WIDTH) }
+fn byte_at<S: Spongent>(ws: &[u64; 5], k: usize) -> u8
+    requires { k * 2 < S.WIDTH }
     ensures { result ≡ word (packed_bit S.WIDTH ws.now) (8 * k) 8 }
 {
     let m = S::WIDTH as usize;

@@ -1,12 +1,12 @@
 // The two members of the Spongent family.
-// Their first counters and numbers of rounds stand in the plain engine too: there a function gives them, and the constants of a trait cannot ask one.
 ghost use Rattle.std.specs.Prelude.{ℕ};
 ghost use Rattle.std.proofs.Common.{refl, lit≤};
 ghost use Rattle.circuit.specs.Planes.{Wide, of_block, InRows};
 
-use crate::gather::{cut_down, cut_up};
+use crate::gather::masked;
 use crate::planes::Planes;
 use crate::words::Word;
+use engine::{DUMBO_FIRST_COUNTER, DUMBO_ROUNDS, JUMBO_FIRST_COUNTER, JUMBO_ROUNDS};
 
 // Spongent on blocks of 4 * WIDTH bits.
 pub(crate) trait Spongent {
@@ -43,25 +43,25 @@ impl Spongent for Dumbo {
 
     ghost FIRST = { 0x75 };
 
-    const FIRST: u8 = 0x75;
+    const FIRST: u8 = DUMBO_FIRST_COUNTER;
 
     ghost ROUNDS = { 80 };
 
-    const ROUNDS: u8 = 80;
+    const ROUNDS: u8 = DUMBO_ROUNDS;
 
     fn rows<W: Word>(p: Planes<W>) -> Planes<W> {
-        let a = cut_down(p.a, 0, 0xFFFF)
-            .or(cut_down(p.b, 8, 0xFFFF0000))
-            .or(cut_up(p.d, 24, 0xFFFF00000000));
-        let b = cut_down(p.a, 16, 0xFFFF)
-            .or(cut_up(p.c, 16, 0xFFFF0000))
-            .or(cut_up(p.d, 8, 0xFFFF00000000));
-        let c = cut_down(p.a, 32, 0xFF)
-            .or(cut_up(p.b, 8, 0xFF00))
-            .or(cut_down(p.c, 0, 0xFFFF0000));
-        let d = cut_down(p.b, 8, 0xFFFF)
-            .or(cut_down(p.c, 16, 0xFF0000))
-            .or(cut_up(p.d, 24, 0xFF000000));
+        let a = masked(p.a, 0xFFFF)
+            .or(masked(p.b.down(8), 0xFFFF0000))
+            .or(masked(p.d.up(24), 0xFFFF00000000));
+        let b = masked(p.a.down(16), 0xFFFF)
+            .or(masked(p.c.up(16), 0xFFFF0000))
+            .or(masked(p.d.up(8), 0xFFFF00000000));
+        let c = masked(p.a.down(32), 0xFF)
+            .or(masked(p.b.up(8), 0xFF00))
+            .or(masked(p.c, 0xFFFF0000));
+        let d = masked(p.b.down(8), 0xFFFF)
+            .or(masked(p.c.down(16), 0xFF0000))
+            .or(masked(p.d.up(24), 0xFF000000));
         Planes { a, b, c, d }
     }
 
@@ -78,26 +78,26 @@ impl Spongent for Jumbo {
 
     ghost FIRST = { 0x45 };
 
-    const FIRST: u8 = 0x45;
+    const FIRST: u8 = JUMBO_FIRST_COUNTER;
 
     ghost ROUNDS = { 90 };
 
-    const ROUNDS: u8 = 90;
+    const ROUNDS: u8 = JUMBO_ROUNDS;
 
     fn rows<W: Word>(p: Planes<W>) -> Planes<W> {
-        let a = cut_down(p.a, 0, 0xFFFF)
-            .or(cut_down(p.b, 4, 0xFFFF0000))
-            .or(cut_down(p.c, 8, 0xF00000000))
-            .or(cut_up(p.d, 36, 0xFFF000000000));
-        let b = cut_down(p.a, 16, 0xFFFF)
-            .or(cut_down(p.b, 20, 0xFF0000))
-            .or(cut_up(p.c, 24, 0xFF000000))
-            .or(cut_up(p.d, 20, 0xFFFF00000000));
-        let c = cut_down(p.a, 32, 0xFFF)
-            .or(cut_up(p.b, 12, 0xF000))
-            .or(cut_up(p.c, 8, 0xFFFF0000))
-            .or(cut_up(p.d, 4, 0xFFFF00000000));
-        let d = cut_down(p.b, 4, 0xFFFF).or(cut_down(p.c, 8, 0xFFFF0000));
+        let a = masked(p.a, 0xFFFF)
+            .or(masked(p.b.down(4), 0xFFFF0000))
+            .or(masked(p.c.down(8), 0xF00000000))
+            .or(masked(p.d.up(36), 0xFFF000000000));
+        let b = masked(p.a.down(16), 0xFFFF)
+            .or(masked(p.b.down(20), 0xFF0000))
+            .or(masked(p.c.up(24), 0xFF000000))
+            .or(masked(p.d.up(20), 0xFFFF00000000));
+        let c = masked(p.a.down(32), 0xFFF)
+            .or(masked(p.b.up(12), 0xF000))
+            .or(masked(p.c.up(8), 0xFFFF0000))
+            .or(masked(p.d.up(4), 0xFFFF00000000));
+        let d = masked(p.b.down(4), 0xFFFF).or(masked(p.c.down(8), 0xFFFF0000));
         Planes { a, b, c, d }
     }
 

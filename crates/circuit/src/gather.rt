@@ -2,27 +2,18 @@
 // First the block is laid out in four rows by sequences of 16 bits, row r with the sequences r, r + 4 and r + 8; then bits change
 // places between rows.
 ghost use Rattle.std.specs.Prelude.{ℕ, ◌<◌};
-ghost use Rattle.circuit.specs.Moves.{Lowered, Raised, Crossed};
+ghost use Rattle.circuit.specs.Moves.{Masked, Crossed};
 ghost use Rattle.circuit.specs.Planes.{of_block, Unzipped, Gathered};
 
 use crate::family::Spongent;
 use crate::planes::Planes;
 use crate::words::Word;
 
-// The bits of x moved n places down, where the mask has ones.
-pub(crate) fn cut_down<W: Word>(x: W, n: u32, mask: u64) -> W
-    requires { n < 64 }
-    ensures { (i : ℕ) → Lowered n mask (W.at x i) (W.at result i) }
+// The bits of x where the mask has ones.
+pub(crate) fn masked<W: Word>(x: W, mask: u64) -> W
+    ensures { (i : ℕ) → Masked mask (W.at x i) (W.at result i) }
 {
-    x.down(n).and(W::all(mask))
-}
-
-// The bits of x moved n places up, where the mask has ones. Down and up are two functions, since one with a sign would have to look at it.
-pub(crate) fn cut_up<W: Word>(x: W, n: u32, mask: u64) -> W
-    requires { n < 64 }
-    ensures { (i : ℕ) → Raised n mask (W.at x i) (W.at result i) }
-{
-    x.up(n).and(W::all(mask))
+    x.and(W::all(mask))
 }
 
 // Two words.
@@ -37,7 +28,7 @@ fn cross<W: Word>(lo: W, hi: W, n: u32, mask: u64) -> Pair<W>
     requires { n < 64 }
     ensures { (i : ℕ) → Crossed n mask (W.at lo i) (W.at hi i) (W.at result.lo i) (W.at result.hi i) }
 {
-    let t = lo.down(n).xor(hi).and(W::all(mask));
+    let t = masked(lo.down(n).xor(hi), mask);
     Pair {
         lo: lo.xor(t.up(n)),
         hi: hi.xor(t),

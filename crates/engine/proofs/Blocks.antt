@@ -1,7 +1,7 @@
 -- Neighbouring blocks, one more at a time, for any width and any function of a block.
 use Rattle.std.proofs.Common.{◌≡◌, ℕ, zero, suc, ◌+◌, ◌-◌, ◌*◌, ◌≤◌, List, ◌++◌, length, take, drop, sym, ap, ◌∙◌, append_assoc, suc-mul, add_comm, zero-mul, add-one, arith}
 use borrow.Rule.Slice.PartMut.{put_mid}
-use Rattle.std.proofs.lemmas.List.{append-nil, drop-drop, length-append, length-drop, take_at, drop_at, drop_all}
+use Rattle.std.proofs.lemmas.List.{append-nil, drop-drop, length-append, length-drop, take_at, drop_at}
 use Rattle.engine.specs.Permutation.{each}
 
 pub each_more : (f : List ℕ → List ℕ) (n k : ℕ) (xs : List ℕ) → each f n (suc k) xs ≡ each f n k xs ++ f (take n (drop (k * n) xs))
@@ -29,6 +29,3 @@ done_more f n k xs ys part same within done is =
     let rest : drop (k * n) ys ≡ drop (k * n) xs = ap (drop (k * n)) done ∙ drop_at (each f n k xs) (drop (k * n) xs) (k * n) front in
     let before : take (k * n) ys ≡ each f n k xs = ap (take (k * n)) done ∙ take_at (each f n k xs) (drop (k * n) xs) (k * n) front in
     rw (width, before, rest, is, width, rest, more, add-one, each_more f n k xs, drop-drop) (sym (append_assoc (each f n k xs) (f (take n (drop (k * n) xs))) (drop (k * n + n) xs)))
-
-pub done_all : (f : List ℕ → List ℕ) (n k : ℕ) (xs ys : List ℕ) → length xs ≡ k * n → Done f n k xs ys → ys ≡ each f n k xs
-done_all f n k xs ys all done = done ∙ ap (λ t. each f n k xs ++ t) (drop_all (k * n) xs (omega arith)) ∙ append-nil (each f n k xs)

@@ -23,14 +23,10 @@ impl Fault for EngineFault {
     }
 
     fn layer(self) -> Layer {
-        match self {
-            EngineFault::BlockLength => Layer::Engine,
-        }
+        Layer::Engine
     }
 
     fn place(self) -> Place {
-        match self {
-            EngineFault::BlockLength => Place::Zero,
-        }
+        Place::Zero
     }
 }

@@ -13,6 +13,8 @@ mod variants;
 pub use faults::EngineFault;
 pub use interface::Engine;
 pub use plain_engine::Plain;
-pub use spongent::next_counter;
+pub use spongent::{
+    DUMBO_FIRST_COUNTER, DUMBO_ROUNDS, JUMBO_FIRST_COUNTER, JUMBO_ROUNDS, next_counter,
+};
 pub use theorems::permutation_laws_stand;
 pub use variants::Variant;

@@ -4,6 +4,7 @@ ghost use Rattle.engine.specs.Permutation.{block_size, permutation};
 
 use crate::faults::EngineFault;
 use crate::interface::Engine;
+use crate::spongent::{DUMBO_FIRST_COUNTER, JUMBO_FIRST_COUNTER};
 use crate::variants::Variant;
 use crate::{keccak, spongent};
 
@@ -34,8 +35,8 @@ fn permute(variant: Variant, block: &mut [u8])
     ensures { block.new ≡ permutation variant block.old }
 {
     match variant {
-        Variant::Dumbo => spongent::permute::<160>(block, 0x75, variant.rounds()),
-        Variant::Jumbo => spongent::permute::<176>(block, 0x45, variant.rounds()),
+        Variant::Dumbo => spongent::permute::<160>(block, DUMBO_FIRST_COUNTER, variant.rounds()),
+        Variant::Jumbo => spongent::permute::<176>(block, JUMBO_FIRST_COUNTER, variant.rounds()),
         Variant::Delirium => keccak::permute(block),
     }
 }

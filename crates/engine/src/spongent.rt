@@ -4,6 +4,18 @@ ghost use Rattle.engine.specs.Spongent.{added, next, counted, substituted, moved
 
 use crate::bits::{Layer, apply, get, number, pack, unpack};
 
+// The counter of Dumbo's first round.
+pub const DUMBO_FIRST_COUNTER: u8 = 0x75;
+
+// The counter of Jumbo's first round.
+pub const JUMBO_FIRST_COUNTER: u8 = 0x45;
+
+// The rounds of Dumbo's permutation.
+pub const DUMBO_ROUNDS: u8 = 80;
+
+// The rounds of Jumbo's permutation.
+pub const JUMBO_ROUNDS: u8 = 90;
+
 const TABLE: [u8; 16] = [14, 13, 11, 0, 2, 1, 4, 15, 7, 10, 8, 5, 9, 12, 3, 6];
 
 // Adds the counter to the first byte, and its reversal to the last.
@@ -32,7 +44,8 @@ fn counter_bit(b: usize, c: u8, j: usize) -> bool
     low ^ high
 }
 
-// Substitutes each half byte.
+// Substitutes each half byte. That the bits are whole half bytes is asked here and of `Move`, which rest on it, and of `one_round`, which runs them:
+// a type of states that holds the fact would be opened and made again at each layer.
 #[derive(Clone, Copy)]
 struct Substitute;
 

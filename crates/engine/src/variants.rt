@@ -3,6 +3,7 @@ ghost use Rattle.std.specs.Prelude.{◌≡◌, Some};
 ghost use Rattle.engine.specs.Names.{name};
 ghost use Rattle.engine.specs.Permutation.{block_size, rounds};
 
+use crate::spongent::{DUMBO_ROUNDS, JUMBO_ROUNDS};
 use std::fmt;
 
 // Dumbo and Jumbo permute blocks by Spongent, Delirium by Keccak.
@@ -30,8 +31,8 @@ impl Variant {
         ensures { result ≡ rounds self }
     {
         match self {
-            Variant::Dumbo => 80,
-            Variant::Jumbo => 90,
+            Variant::Dumbo => DUMBO_ROUNDS,
+            Variant::Jumbo => JUMBO_ROUNDS,
             Variant::Delirium => 18,
         }
     }

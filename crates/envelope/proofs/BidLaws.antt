@@ -1,11 +1,8 @@
 -- Bids: how the parts of an envelope are written, and what sealing leaves.
-use Rattle.std.proofs.Common.{◌≡◌, ℕ, ◌+◌, ◌-◌, ◌≤◌, List, ◌++◌, length, take, drop, replicate, Ok, Result, sym, refl, ap, ◌∙◌, ap₂, arith, lit≤, eq-eqb}
-use borrow.Rule.Slice.PartMut.{put_mid}
+use Rattle.std.proofs.Common.{◌≡◌, ℕ, ◌≤◌, List, ◌++◌, length, take, Ok, Result, sym, ap, ◌∙◌, ap₂, arith, eq-eqb}
 use Rattle.std.proofs.lemmas.Bool.{le-leb}
-use Rattle.std.proofs.lemmas.List.{length-drop, length-append, length-take-le, append_assoc}
 use Rattle.fault.specs.Checks.{left}
 use Rattle.engine.specs.declared.variants.Variant.{Variant}
-use Rattle.engine.specs.declared.variants.Variant.TheVariants.{Dumbo, Jumbo, Delirium}
 use Rattle.cipher.specs.Mode.{tag_size, tag, sealed_text}
 use Rattle.cipher.specs.Calls.{seal_answer}
 use Rattle.cipher.specs.declared.faults.CipherFault.{CipherFault}
@@ -15,31 +12,7 @@ use Rattle.envelope.specs.Heads.{head}
 use Rattle.envelope.specs.Envelopes.{enveloped, bid}
 use Rattle.envelope.specs.declared.terms.Terms.{Terms}
 use Rattle.envelope.specs.declared.faults.EnvelopeFault.{EnvelopeFault}
-use Rattle.envelope.proofs.Writing.{write_more, write_all}
 use Rattle.envelope.proofs.TermsLaws.{terms_length}
-
-tag_fits : (v : Variant) → tag_size v ≤ 16
-tag_fits Dumbo = lit≤ tt
-tag_fits Jumbo = lit≤ tt
-tag_fits Delirium = lit≤ tt
-
--- What stands in the place after head, sealed letter and tag are written.
-pub parts_written : (h s t xs yh ys yt : List ℕ) → length h ≡ 12 → length s ≡ 64 → length xs ≡ 76 + length t → yh ≡ h → ys ≡ s → yt ≡ t
-    → (let place = put_mid 12 64 (yh ++ drop 12 xs) ys in put_mid 76 (length place - 76) place yt ≡ h ++ (s ++ t))
-parts_written h s t xs yh ys yt lh ls lx eh es et =
-    let ly : length yh ≡ 12 = ap length eh ∙ lh in
-    let place : List ℕ = put_mid 12 64 (yh ++ drop 12 xs) ys in
-    let two : place ≡ (yh ++ ys) ++ drop 76 xs = write_more 12 64 yh ys xs (yh ++ drop 12 xs) ly refl in
-    let l2 : length (yh ++ ys) ≡ 76 = length-append yh ys ∙ omega (arith, ap length es) in
-    let whole : length place ≡ length xs = ap length two ∙ length-append (yh ++ ys) (drop 76 xs) ∙ omega (arith, length-drop 76 xs) in
-    let three = write_more 76 (length place - 76) (yh ++ ys) yt xs place l2 two in
-    write_all (76 + (length place - 76)) ((yh ++ ys) ++ yt) xs _ (omega arith) three ∙ append_assoc yh ys yt ∙ ap₂ ◌++◌ eh (ap₂ ◌++◌ es et)
-
--- A place for a tag, cut from sixteen bytes.
-pub tag_place_length : (v : Variant) (t : ℕ) → t ≡ tag_size v → length (take t (replicate {A = ℕ} 16 0)) ≡ tag_size v
-tag_place_length v t e =
-    let fits : tag_size v ≤ 16 = tag_fits v in
-    length-take-le t (replicate {A = ℕ} 16 0) (omega arith) ∙ omega arith
 
 -- Sealing under lawful sizes is granted, and leaves what is new.
 sealing_granted : (v : Variant) (key nonce ad text out place : List ℕ) → length key ≡ 16 → length nonce ≡ 12 → length ad ≤ 64 → length text ≡ 64 → length out ≡ 64 → length place ≡ tag_size v

@@ -2,13 +2,12 @@
 use Rattle.std.proofs.Common.{◌≡◌, ℕ, zero, suc, ◌+◌, ◌*◌, ◌/◌, ◌%◌, ◌^◌, ◌<◌, List, [], ◌∷◌, ◌++◌, length, get_or, take, drop, sym, ap, ◌∙◌, ap₂, w32, arith}
 use native.Mathlib.Numerals.{unary_clauses}
 use Rattle.std.specs.Int.{to_be_bytes}
-use Rattle.std.specs.Int.Digits.{number_from_digits, AllBelowBase}
+use Rattle.std.specs.Int.Digits.{number_from_digits}
 use Rattle.std.proofs.lemmas.Int.Digits.{number_push}
-use Rattle.std.proofs.ByRecursion.{All-append}
 use Rattle.std.proofs.lemmas.List.{take_at, drop_at, length-append, append_assoc}
 use Rattle.big_endian.specs.Numbers.{bytes_of}
 use Rattle.big_endian.proofs.Laws.{bytes_of_length}
-use Rattle.envelope.proofs.Bytes.{bytes_given}
+use Rattle.cipher.proofs.Bytes.{bytes_given}
 use Rattle.envelope.specs.Heads.{head, lot_of, bidder_of, sequence_of}
 
 -- The number that the last k bytes of a number write is that number, if it has no more bytes.
@@ -19,15 +18,6 @@ number_back (suc k) n h =
     let e : 256 ^ suc k ≡ 256 ^ k * 256 = simp unary_clauses in
     let q : n / 256 < 256 ^ k = omega arith in
     number_push 256 (bytes_of k (n / 256)) (n % 256) ∙ ap (λ m. m * 256 + n % 256) (number_back k (n / 256) q) ∙ omega arith
-
-pub bytes_of_under : (k n : ℕ) → AllBelowBase 256 (bytes_of k n)
-unfolding bytes_of
-bytes_of_under zero n = tt
-bytes_of_under (suc k) n = All-append (λ d. d < 256) (bytes_of k (n / 256)) (n % 256 ∷ []) (bytes_of_under k (n / 256)) (omega arith, tt)
-
--- Numbers of at most k bytes are equal where their bytes are.
-pub same_number : (k m n : ℕ) → m < 256 ^ k → n < 256 ^ k → bytes_of k m ≡ bytes_of k n → m ≡ n
-same_number k m n hm hn e = sym (number_back k m hm) ∙ ap (number_from_digits 256) e ∙ number_back k n hn
 
 -- The twelve bytes of three numbers are their head.
 pub head_written : (l b s : ℕ) (xs ys zs : List ℕ) → xs ≡ to_be_bytes w32 l → ys ≡ to_be_bytes w32 b → zs ≡ to_be_bytes w32 s
@@ -44,12 +34,6 @@ head_length l b s =
     let lb = bytes_of_length 4 b in
     let ls = bytes_of_length 4 s in
     omega (arith, length-append (bytes_of 4 l) (bytes_of 4 b ++ bytes_of 4 s), length-append (bytes_of 4 b) (bytes_of 4 s))
-
-pub head_under : (l b s : ℕ) → AllBelowBase 256 (head l b s)
-unfolding head
-head_under l b s =
-    All-append (λ d. d < 256) (bytes_of 4 l) (bytes_of 4 b ++ bytes_of 4 s) (bytes_of_under 4 l)
-    (All-append (λ d. d < 256) (bytes_of 4 b) (bytes_of 4 s) (bytes_of_under 4 b) (bytes_of_under 4 s))
 
 -- The bytes of lot, bidder and sequence in an envelope that opens with a head.
 lot_bytes : (l b s : ℕ) (rest : List ℕ) → take 4 (head l b s ++ rest) ≡ bytes_of 4 l

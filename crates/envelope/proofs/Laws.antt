@@ -10,7 +10,7 @@ use Rattle.big_endian.proofs.Laws.{bytes_back, bytes_of_length}
 use Rattle.engine.specs.declared.variants.Variant.{Variant}
 use Rattle.cipher.specs.Mode.{tag_size, tag, sealed_text, opened_text}
 use Rattle.cipher.specs.Calls.{check_answer}
-use Rattle.cipher.proofs.Laws.{sealed_length, tag_length, opened_length, opened_sealed, right_tag_passes}
+use Rattle.cipher.proofs.Laws.{sealed_length, tag_length, opened_sealed, right_tag_passes}
 use Rattle.envelope.specs.Letters.{letter, most_cents, amount_field, note_length, note_field, after_note, only_zeros, lawful, amount_offered}
 use Rattle.envelope.specs.Heads.{head, lot_of, bidder_of, sequence_of}
 use Rattle.envelope.specs.Envelopes.{envelope_size, head_part, sealed_part, tag_part, enveloped, bid, right_tag, letter_sealed_in}
@@ -110,11 +110,6 @@ enveloped_right v key terms h l lh ll =
 pub enveloped_letter : (v : Variant) (key terms h l : List ℕ) → length h ≡ 12 → length l ≡ 64 → letter_sealed_in v key (enveloped v key terms h l) ≡ l
 enveloped_letter v key terms h l lh ll =
     ap₂ (λ n s. opened_text v key n s) (enveloped_head v key terms h l lh) (enveloped_sealed v key terms h l lh ll) ∙ opened_sealed v key h l
-
--- The letter that an envelope opens to has 64 bytes.
-pub letter_of_length : (v : Variant) (key e : List ℕ) → 76 ≤ length e → length (letter_sealed_in v key e) ≡ 64
-letter_of_length v key e h =
-    opened_length v key (head_part e) (sealed_part e) ∙ length-take-le 64 (drop 12 e) (omega (arith, length-drop 12 e))
 
 -- A head is the head of what it names, where it is made of bytes.
 pub head_back : (e : List ℕ) → 12 ≤ length e → AllBelowBase 256 e → head (lot_of e) (bidder_of e) (sequence_of e) ≡ head_part e

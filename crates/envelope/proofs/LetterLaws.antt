@@ -8,7 +8,7 @@ use Rattle.std.proofs.lemmas.Bool.{eq-eqb, ne_eqb, le-leb, lt-leb, eqb-true, leb
 use Rattle.std.proofs.lemmas.List.{get_or-drop, take_rest, drop-drop, set_at, take_at, drop_at, append_assoc, length-append, drop-replicate, length-take-le}
 use Rattle.big_endian.specs.Numbers.{bytes_of}
 use Rattle.big_endian.proofs.Laws.{bytes_of_length}
-use Rattle.envelope.proofs.Bytes.{bytes_given, eight_read}
+use Rattle.cipher.proofs.Bytes.{bytes_given, eight_read}
 use Rattle.envelope.specs.Letters.{letter, most_cents, amount_field, note_length, after_note, only_zeros, lawful, amount_offered}
 
 -- All bytes are zero, by the library's word.

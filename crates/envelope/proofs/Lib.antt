@@ -1,4 +1,3 @@
-pub mod Bytes
 pub mod LetterLaws
 pub mod Writing
 pub mod TermsLaws

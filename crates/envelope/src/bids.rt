@@ -9,17 +9,14 @@ use crate::faults::EnvelopeFault;
 use crate::heads::{HEAD_BYTES, Head, head_of};
 use crate::letters::{LETTER_BYTES, MOST_CENTS, MOST_NOTE_BYTES, letter_of};
 use crate::terms::MOST_TERMS_BYTES;
-use cipher::{MOST_TAG_BYTES, check_key, seal, tag_bytes};
+use cipher::{check_key, seal, tag_bytes};
 use engine::{Engine, Variant};
-
-// Where the tag stands in an envelope.
-const TAG_AT: usize = HEAD_BYTES + LETTER_BYTES;
 
 // The bytes of an envelope.
 pub fn envelope_bytes(variant: Variant) -> usize
     ensures { result ≡ envelope_size variant }
 {
-    TAG_AT + tag_bytes(variant)
+    HEAD_BYTES + LETTER_BYTES + tag_bytes(variant)
 }
 
 // Seals a bid: writes the envelope of a head, an amount and a note under the head's terms. The head is used up, granted or refused. After a
@@ -74,7 +71,8 @@ fn check_bid(
     Ok(())
 }
 
-// Writes the envelope of a head and a letter under a key and terms, all of lawful sizes.
+// Writes the envelope of a head and a letter under a key and terms, all of lawful sizes. The letter is sealed where it stands in the
+// envelope, with its tag behind it.
 fn put_envelope<E: Engine>(
     engine: &E,
     key: &[u8],
@@ -89,21 +87,9 @@ fn put_envelope<E: Engine>(
     ensures granted { result ≡ Ok tt }
     ensures place { place.new ≡ enveloped (E.kind engine.now) key.now terms.now nonce.now letter.now }
 {
-    let mut sealed = [0u8; LETTER_BYTES];
-    // Room for the longest tag, cut to the variant's, as there is no heap.
-    let mut tag = [0u8; MOST_TAG_BYTES];
-    let tag = &mut tag[..tag_bytes(engine.variant())];
-    seal(engine, key, nonce, terms, letter, &mut sealed, tag)?;
-    put_parts(nonce, &sealed, tag, place);
+    let (head, rest) = place.split_at_mut(HEAD_BYTES);
+    let (sealed, tag) = rest.split_at_mut(LETTER_BYTES);
+    head.copy_from_slice(nonce);
+    seal(engine, key, nonce, terms, letter, sealed, tag)?;
     Ok(())
-}
-
-// Writes the parts of an envelope, one after another.
-fn put_parts(head: &[u8; HEAD_BYTES], sealed: &[u8; LETTER_BYTES], tag: &[u8], place: &mut [u8])
-    requires { length place.old ≡ 76 + length tag.now }
-    ensures { place.new ≡ head.now ++ (sealed.now ++ tag.now) }
-{
-    place[..HEAD_BYTES].copy_from_slice(head);
-    place[HEAD_BYTES..TAG_AT].copy_from_slice(sealed);
-    place[TAG_AT..].copy_from_slice(tag);
 }

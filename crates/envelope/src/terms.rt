@@ -6,7 +6,8 @@ use big_endian::{number_of, put_number};
 // The most bytes that terms may have.
 pub const MOST_TERMS_BYTES: usize = 64;
 
-// Four numbers of sixteen bytes each, filled with zeros after the terms, and how many bytes the terms have.
+// Four numbers of sixteen bytes each, filled with zeros after the terms, and how many bytes the terms have. By a rule of the project a head
+// holds its terms as plain numbers and no array.
 #[derive(Clone, Copy)]
 pub struct Terms {
     a: u128,
@@ -31,9 +32,8 @@ impl Terms {
     }
 
     // The terms that the first of these bytes write, `len` of them.
-    fn held_in(held: &[u8], len: u8) -> Terms
-        requires held { length held.now ≡ 64 }
-        requires len { len ≤ 64 }
+    fn held_in(held: &[u8; MOST_TERMS_BYTES], len: u8) -> Terms
+        requires { len ≤ 64 }
         ensures { bytes_of_terms result ≡ take len held.now }
     {
         Terms {

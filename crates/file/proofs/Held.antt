@@ -12,7 +12,7 @@ use Rattle.room.specs.declared.faults.RoomFault.{RoomFault}
 use Rattle.room.specs.declared.slots.Phase.TheVariants.{Open}
 use Rattle.room.specs.declared.state.RoomState.{RoomState}
 use Rattle.file.specs.Contents.{Contents, Sent}
-use Rattle.file.specs.Holding.{envelopes_of, Held}
+use Rattle.file.specs.Holding.{Held}
 use Rattle.file.specs.Report.{room_of, answer_lines, lodged_all, page_in, accepted_report}
 use Rattle.file.specs.Stepwise.{lodging_of, GoesThrough}
 use Rattle.file.specs.Theorems.{KeepsLimits}

@@ -1,8 +1,10 @@
 -- Hexadecimal digits, one after the other and two by two.
-use Rattle.std.proofs.Common.{◌≡◌, ℕ, zero, suc, ◌+◌, ◌*◌, ◌<◌, ◌≤◌, true, ◌&&◌, List, [], ◌∷◌, ◌++◌, length, get_or, take, drop, set, sym, refl, ap, ◌∙◌, arith}
+use Rattle.std.proofs.Common.{◌≡◌, ℕ, ◌+◌, ◌*◌, ◌%◌, true, ◌&&◌, List, [], ◌∷◌, length, Some, Ok, refl, ap, ◌∙◌, arith}
 use Rattle.std.specs.List.{list_all}
-use Rattle.std.proofs.lemmas.List.{drop_more, drop_all, append-nil, append_assoc, take_more_set, take_all}
 use Rattle.std.proofs.lemmas.Bool.{and_parts}
+use Rattle.hex.specs.Hex.{hex_digit_value, pair_value, decode_pairs, decode_sized}
+use Rattle.hex.proofs.HexLemmas.{decode_of-even, decode_sized-twice}
+use Rattle.hex.proofs.Pairs.{cons_byte, decode_pairs-ok_pair}
 use Rattle.file.specs.Hexadecimal.{is_hex_digit, all_hex_digits, digit_value, written_bytes}
 
 -- the digits are all that the definition's recursion asks of each
@@ -11,36 +13,20 @@ unfolding all_hex_digits
 hex_all [] = refl
 hex_all (c ∷ cs) = ap (λ b. is_hex_digit c && b) (hex_all cs)
 
-pub hex_at : (ds : List ℕ) (i : ℕ) → i < length ds → all_hex_digits ds ≡ true → is_hex_digit (get_or ds i 0) ≡ true
-unfolding all_hex_digits
-hex_at [] i l h = absurd (omega arith)
-hex_at (c ∷ cs) zero l h = (and_parts (is_hex_digit c) (all_hex_digits cs) h).0
-hex_at (c ∷ cs) (suc i) l h = hex_at cs i (omega arith) (and_parts (is_hex_digit c) (all_hex_digits cs) h).1
+-- a lower-case digit is worth the same to the kit
+same_worth : (c : ℕ) → is_hex_digit c ≡ true → hex_digit_value c ≡ Some (digit_value c)
+same_worth c h = grind (arith)
 
--- the first i bytes are written
-unfoldable pub Decoded : List ℕ → ℕ → List ℕ → Type 0
-Decoded ds i out = take i out ++ written_bytes (drop (2 * i) ds) ≡ written_bytes ds
+same_pairs : (i : ℕ) (ds : List ℕ) → length ds % 2 ≡ 0 → all_hex_digits ds ≡ true → decode_pairs i ds ≡ Ok (written_bytes ds)
+unfolding all_hex_digits written_bytes decode_pairs
+same_pairs i [] even h = refl
+same_pairs i (c ∷ []) even h = absurd (omega arith)
+same_pairs i (c ∷ d ∷ ds) even h =
+    let first = and_parts (is_hex_digit c) (is_hex_digit d && all_hex_digits ds) h in
+    let second = and_parts (is_hex_digit d) (all_hex_digits ds) first.1 in
+    let pair : pair_value c d i ≡ Ok (digit_value c * 16 + digit_value d) = rw (same_worth c first.0, same_worth d second.0) refl in
+    decode_pairs-ok_pair i c d _ ds pair ∙ ap (cons_byte (digit_value c * 16 + digit_value d)) (same_pairs (i + 2) ds (omega arith) second.1)
 
-pub decoded_none : (ds out : List ℕ) → Decoded ds 0 out
-unfolding Decoded
-decoded_none ds out = refl
-
-two : (ds : List ℕ) (j : ℕ) → j + 1 < length ds → drop j ds ≡ get_or ds j 0 ∷ (get_or ds (j + 1) 0 ∷ drop (j + 1 + 1) ds)
-two ds j l = drop_more ds j 0 (omega arith) ∙ ap (λ z. get_or ds j 0 ∷ z) (drop_more ds (j + 1) 0 l)
-
-pub decoded_more : (ds : List ℕ) (i : ℕ) (out : List ℕ) (b : ℕ) → i < length out → length ds ≡ 2 * length out
-    → b ≡ digit_value (get_or ds (2 * i) 0) * 16 + digit_value (get_or ds (2 * i + 1) 0) → Decoded ds i out → Decoded ds (i + 1) (set out i b)
-unfolding Decoded written_bytes
-decoded_more ds i out b l e v p =
-    let n : 2 * i + 1 + 1 ≡ 2 * (i + 1) = omega arith in
-    let w : written_bytes (drop (2 * i) ds) ≡ b ∷ written_bytes (drop (2 * (i + 1)) ds) =
-    ap written_bytes (two ds (2 * i) (omega arith)) ∙ ap (λ z. z ∷ written_bytes (drop (2 * i + 1 + 1) ds)) (sym v) ∙ ap (λ z. b ∷ written_bytes (drop z ds)) n in
-    ap (λ z. z ++ written_bytes (drop (2 * (i + 1)) ds)) (take_more_set out i b l)
-    ∙ append_assoc (take i out) (b ∷ []) (written_bytes (drop (2 * (i + 1)) ds))
-    ∙ ap (λ z. take i out ++ z) (sym w) ∙ p
-
-pub decoded_all : (ds : List ℕ) (i : ℕ) (out : List ℕ) → length out ≤ i → length ds ≡ 2 * length out → Decoded ds i out → out ≡ written_bytes ds
-unfolding Decoded written_bytes
-decoded_all ds i out l e p =
-    let d : written_bytes (drop (2 * i) ds) ≡ [] = ap written_bytes (drop_all (2 * i) ds (omega arith)) in
-    sym (take_all i out l) ∙ sym (append-nil (take i out)) ∙ ap (λ z. take i out ++ z) (sym d) ∙ p
+-- lower-case digits, two for each place, write what the kit decodes from them
+pub decoded : (ds : List ℕ) (n : ℕ) → length ds ≡ 2 * n → all_hex_digits ds ≡ true → decode_sized ds n ≡ Ok (written_bytes ds)
+decoded ds n len h = decode_sized-twice ds n len ∙ decode_of-even ds (omega arith) ∙ same_pairs 0 ds (omega arith) h

@@ -48,10 +48,10 @@ over_ended F L x e h = sym (ap F (first_ended L e)) ∙ h
 -- what lies behind the register, after one more step
 pub keeps_on : (a b c : Gathering) → KeepsRest a b → KeepsRest b c → KeepsRest a c
 keeps_on a b c h k =
-    let n : b.count + (c.count - b.count) ≡ c.count = let m = k.more in omega arith in
-    let behind : (p : List RegisterEntry) → drop (c.count - b.count) (drop b.count p) ≡ drop c.count p =
-    λ p. drop-drop (c.count - b.count) b.count p ∙ ap (λ i. drop i p) n in
+    let n : b.sale.count + (c.sale.count - b.sale.count) ≡ c.sale.count = let m = k.more in omega arith in
+    let behind : (p : List RegisterEntry) → drop (c.sale.count - b.sale.count) (drop b.sale.count p) ≡ drop c.sale.count p =
+    λ p. drop-drop (c.sale.count - b.sale.count) b.sale.count p ∙ ap (λ i. drop i p) n in
     record {
       more = let m = h.more in let o = k.more in omega arith;
-      rest = k.rest ∙ sym (behind b.places.now) ∙ ap (drop (c.count - b.count)) h.rest ∙ behind a.places.now;
+      rest = k.rest ∙ sym (behind b.places.now) ∙ ap (drop (c.sale.count - b.sale.count)) h.rest ∙ behind a.places.now;
     }

@@ -7,7 +7,7 @@ use Rattle.file.specs.declared.faults.FileFault.{FileFault}
 use Rattle.std.proofs.lemmas.List.{append_assoc}
 use Rattle.engine.specs.declared.variants.Variant.{Variant}
 use Rattle.room.specs.Rooms.{contents}
-use Rattle.room.specs.Calls.{Call, Lodging, Met, answer_to, room_after}
+use Rattle.room.specs.Calls.{Lodging, Met, answer_to, room_after}
 use Rattle.room.specs.Runs.{Meeting, met, Runs, none, more, calls_of}
 use Rattle.file.specs.Lines.{Bytes}
 use Rattle.file.specs.Contents.{Sent, envelopes_in}

@@ -1,5 +1,5 @@
 -- What enrolling a bidder leaves in the list of bidders, and what gathering a file leaves in the places lent for it.
-use Rattle.std.specs.Prelude.{◌≡◌, ℕ, ◌≤◌, List, ◌++◌, length, take, drop, Ok, Err, Result}
+use Rattle.std.specs.Prelude.{◌≡◌, ℕ, ◌≤◌, List, take, drop, Ok, Err, Result}
 use Rattle.list.specs.declared.faults.ListFault.{ListFault}
 use Rattle.room.specs.Sales.{Sale}
 use Rattle.file.specs.Contents.{gathered, enrolled_in}
@@ -22,8 +22,8 @@ register_after (Err f) before = before
 
 -- A register loses no bidder, and leaves what lies behind it in its places as it was.
 pub record KeepsRest (before after : Gathering) : Type 0 where
-  pub more : before.count ≤ after.count
-  pub rest : drop after.count after.places.now ≡ drop after.count before.places.now
+  pub more : before.sale.count ≤ after.sale.count
+  pub rest : drop after.sale.count after.places.now ≡ drop after.sale.count before.places.now
 
 -- The sale that was gathered, with its register.
 abbrev pub sale_of : Gathered → List RegisterEntry → Sale
@@ -36,7 +36,7 @@ sale_by (Err f) places = Err f
 
 -- The sale that was gathered so far.
 abbrev pub sale_so_far : Gathering → Sale
-sale_so_far g = record { variant = g.variant; lot = g.lot; terms = g.terms.now; register = take g.count g.places.now }
+sale_so_far g = sale_of g.sale (take g.sale.count g.places.now)
 
 -- What comes of the lines behind one that was taken in, s being the sale so far, or xs the register.
 abbrev pub goes_on : Result (Unit {0}) FileFault → Sale → Items → Result Sale FileFault

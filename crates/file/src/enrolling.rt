@@ -31,11 +31,11 @@ impl Gathering<'_, '_> {
         ensures same_places { self.new.places.ghost_name ≡ self.old.places.ghost_name }
     {
         let key = key_of(key);
-        let count = self.count;
+        let count = self.sale.count;
         let places = &mut *self.places;
         let mut list = Ordered { places, count };
         let enrolled = list.insert(RegisterEntry { bidder, key });
-        self.count = list.count;
+        self.sale.count = list.count;
         enrolled.map_err(|cause| FileFault::List { line, cause })?;
         Ok(())
     }

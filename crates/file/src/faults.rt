@@ -23,7 +23,8 @@ pub enum FileFault {
 }
 
 impl FileFault {
-    // The line that is refused, 0 for a file that is too long, and for one that the room refuses.
+    // The line that is refused. By the rules of refusals it is 0, and no `Option`, for a file that is too long; and so it is for one that the
+    // room refuses.
     pub fn line(self) -> u32
         ensures { result ≡ line_of self }
     {

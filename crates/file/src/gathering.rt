@@ -14,16 +14,13 @@ pub struct Gathered<'a> {
     pub count: usize,
 }
 
-// A sale while it is gathered: what the lines said so far, and its register in the first of the places lent for it.
+// A sale while it is gathered: what the lines said so far, with its register in the first of the places lent for it.
 // The places stand here without a list over them: were they lent to a list inside this struct, what they hold would no longer be known once the
 // struct is lent to a function and given back.
 #[derive(Drop)]
 pub(crate) struct Gathering<'a, 'p> {
-    pub(crate) lot: u32,
-    pub(crate) variant: Variant,
-    pub(crate) terms: &'a [u8],
+    pub(crate) sale: Gathered<'a>,
     pub(crate) places: &'p mut [RegisterEntry],
-    pub(crate) count: usize,
     ghost long: { length places.now ≡ 64 },
-    ghost few: { count ≤ 64 },
+    ghost few: { sale.count ≤ 64 },
 }

@@ -10,7 +10,7 @@ ghost use Rattle.file.specs.Theorems.{KeepsLimits};
 use crate::gathering::Gathered;
 use crate::lodging::lodge_all;
 use crate::stopping::Stopped;
-use crate::taking::{REGISTER_PLACES, gather};
+use crate::taking::gather;
 use circuit::Circuit;
 use engine::{Engine, Variant};
 use envelope::LETTER_BYTES;
@@ -70,7 +70,7 @@ pub(crate) fn hold(heap: Global, text: &[u8]) -> Result<Vec<u8>, Stopped>
         bidder: 0,
         key: [0; 16],
     };
-    let mut places = [nobody; REGISTER_PLACES];
+    let mut places = [nobody; MOST_BIDDERS];
     let sale = gather(text, &mut places)?;
     let register = &places[..sale.count];
     match sale.variant {

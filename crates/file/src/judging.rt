@@ -7,7 +7,7 @@ use crate::faults::FileFault;
 use crate::forms::{bidder_line, envelope_line, lot_line};
 use crate::line::{Line, Section, Step};
 
-// A line that must have one text.
+// Line n, which must have one text. Here as in forms.rt the number goes along with the text only for the fault, and for the case that names it.
 fn must_be<'a>(text: &[u8], next: Section, n: u32, line: &'a [u8]) -> Result<Step<'a>, FileFault>
     ensures { verdict_of result ≡ line_must_be text.now next n line.now }
 {
@@ -17,7 +17,7 @@ fn must_be<'a>(text: &[u8], next: Section, n: u32, line: &'a [u8]) -> Result<Ste
     Ok(Step { said: None, next })
 }
 
-// A line that must say something.
+// A line that must say something: what it says, or why not.
 fn must_say<'a>(said: Result<Line<'a>, FileFault>, next: Section) -> Result<Step<'a>, FileFault>
     ensures { verdict_of result ≡ line_must_say (said_by said.entry) next }
 {

@@ -61,6 +61,7 @@ impl<'a> Reader<'a> {
     pub(crate) fn read(&mut self) -> Result<Option<Line<'a>>, FileFault>
         ensures { GivesNext self.old (result_transpose result) self.new }
     {
+        // No `for`, since the lines are not counted beforehand: it ends with the bytes, or at a line that says something.
         while !self.rest.is_empty() {
             if let Some(line) = self.step()? {
                 return Ok(Some(line));

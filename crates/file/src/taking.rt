@@ -13,9 +13,6 @@ use crate::reader::Reader;
 use engine::Variant;
 use room::{MOST_BIDDERS, RegisterEntry};
 
-// The places of a register.
-pub const REGISTER_PLACES: usize = MOST_BIDDERS;
-
 impl<'a> Gathering<'a, '_> {
     // Takes in a line: the lot sets what was gathered, a bidder is enrolled, and an envelope changes nothing.
     fn take_in(&mut self, line: Line<'a>) -> Result<(), FileFault>
@@ -31,9 +28,9 @@ impl<'a> Gathering<'a, '_> {
                 variant,
                 terms,
             } => {
-                self.lot = lot;
-                self.variant = variant;
-                self.terms = terms;
+                self.sale.lot = lot;
+                self.sale.variant = variant;
+                self.sale.terms = terms;
                 Ok(())
             }
             Line::Bidder { line, bidder, key } => self.enroll(line, bidder, key),
@@ -54,30 +51,28 @@ impl<'a> Gathering<'a, '_> {
         while let Some(line) = reader.read()? {
             self.take_in(line)?;
         }
-        Ok(Gathered {
-            lot: self.lot,
-            variant: self.variant,
-            terms: self.terms,
-            count: self.count,
-        })
+        Ok(self.sale)
     }
 }
 
 // Gathers what a file says: the register comes into the first of the places.
 pub fn gather<'a>(
     text: &'a [u8],
-    places: &mut [RegisterEntry; REGISTER_PLACES],
+    places: &mut [RegisterEntry; MOST_BIDDERS],
 ) -> Result<Gathered<'a>, FileFault>
     ensures sale { sale_by result places.new ≡ sale_in text.now }
     ensures few { IfOk result (λ g. g.count ≤ 64) }
     ensures places { places.new ≡ written_over (enrolled_in [] (said_in text.now)) places.old }
 {
-    let mut sale = Gathering {
-        lot: 0,
-        variant: Variant::Dumbo,
-        terms: &[],
+    // Nothing is known before the first line. The lot, the variant and the terms here are never answered: the line of the lot comes first.
+    let mut gathering = Gathering {
+        sale: Gathered {
+            lot: 0,
+            variant: Variant::Dumbo,
+            terms: &[],
+            count: 0,
+        },
         places,
-        count: 0,
     };
-    sale.take_all(text)
+    gathering.take_all(text)
 }

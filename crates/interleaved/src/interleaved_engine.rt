@@ -5,10 +5,8 @@ ghost use Rattle.engine.specs.Permutation.{permutation, each};
 ghost use Rattle.engine.specs.declared.variants.Variant.TheVariants.{Delirium};
 
 use crate::rounds::all_rounds;
-use crate::weave::{load, store};
+use crate::weave::{BLOCK_BYTES, load, store};
 use engine::{Engine, EngineFault, Variant};
-
-const BLOCK_BYTES: usize = 25;
 
 #[derive(Clone, Copy)]
 pub struct Interleaved;

@@ -4,6 +4,9 @@ ghost use Rattle.engine.specs.Bits.{bit};
 ghost use Rattle.interleaved.specs.Moves.{exchanged, apart, Moved, woven_from, unwoven_from};
 ghost use Rattle.interleaved.specs.Words.{gathered, scattered, loaded, stored};
 
+// The bytes of a block.
+pub(crate) const BLOCK_BYTES: usize = 25;
+
 // Exchanges the bits of x under m with those k places above.
 fn exchange(x: u32, k: u32, m: u32) -> u32
     requires { k < 32 }
@@ -34,14 +37,14 @@ fn unweave(x: u32) -> u32
     exchange(c, 1, 0x22222222)
 }
 
-// The byte at a place, or 0 past the end.
+// The byte at a place, or 0 past the end: one block goes the same way as four, with zeros for the blocks that are not there.
 fn byte_at(blocks: &[u8], place: usize) -> u8
     ensures { result ≡ slice_index blocks.now place }
 {
     blocks.get(place).copied().unwrap_or(0)
 }
 
-// Writes a byte at a place, and nothing past the end.
+// Writes a byte at a place, and nothing past the end, where the blocks that are not there would be.
 fn put(blocks: &mut [u8], place: usize, byte: u8)
     ensures { blocks.new ≡ slice_set blocks.old place byte }
 {
@@ -57,9 +60,9 @@ fn gather(blocks: &[u8], l: usize) -> u32
 {
     weave(u32::from_le_bytes([
         byte_at(blocks, l),
-        byte_at(blocks, 25 + l),
-        byte_at(blocks, 50 + l),
-        byte_at(blocks, 75 + l),
+        byte_at(blocks, BLOCK_BYTES + l),
+        byte_at(blocks, 2 * BLOCK_BYTES + l),
+        byte_at(blocks, 3 * BLOCK_BYTES + l),
     ]))
 }
 
@@ -70,9 +73,9 @@ fn scatter(word: u32, l: usize, blocks: &mut [u8])
 {
     let [first, second, third, fourth] = unweave(word).to_le_bytes();
     put(blocks, l, first);
-    put(blocks, 25 + l, second);
-    put(blocks, 50 + l, third);
-    put(blocks, 75 + l, fourth);
+    put(blocks, BLOCK_BYTES + l, second);
+    put(blocks, 2 * BLOCK_BYTES + l, third);
+    put(blocks, 3 * BLOCK_BYTES + l, fourth);
 }
 
 // The words of up to four neighbouring blocks.

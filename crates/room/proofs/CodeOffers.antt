@@ -1,7 +1,7 @@
 -- The amount that the envelope of a slot offers, from its parts.
 use Rattle.std.proofs.Common.{◌≡◌, ℕ, cond, ◌++◌, length, take, drop, sym, ap, ◌∙◌}
 use Rattle.std.specs.Str.{bytes_eq}
-use Rattle.std.proofs.lemmas.Bool.{ne_eqb, eq-eqb}
+use Rattle.std.proofs.lemmas.Bool.{ne_eqb}
 use Rattle.std.proofs.lemmas.List.{take_at, drop_at, drop-drop}
 use Rattle.engine.specs.declared.variants.Variant.{Variant}
 use Rattle.cipher.specs.Mode.{tag_size, tag, opened_text}
@@ -15,9 +15,6 @@ use Rattle.room.specs.Calls.{amount_held}
 use Rattle.room.specs.declared.slots.Slot.{Slot}
 
 module _ (v : Variant) (lot : ℕ) (terms : Bytes) (x : Slot) where
-  pub amount_none : x.sequence ≡ 0 → 0 ≡ amount_held v x.key terms (envelope_in v lot x)
-  amount_none h = rw (eq-eqb x.sequence 0 h)
-
   abbrev top : Bytes
   top = head lot x.bidder x.sequence
 

@@ -1,7 +1,7 @@
 -- Facts about the writing of numbers, lines and pages into a place.
 use Rattle.std.proofs.Common.{◌≡◌, ℕ, ◌+◌, ◌<◌, ◌≤◌, List, [], ◌∷◌, ◌++◌, length, get_or, take, drop, codes, decimal, sym, refl, ap, ◌∙◌, arith}
 use lib.Seq.{paste}
-use Rattle.std.proofs.lemmas.List.{length-append, length-take, length-drop, append_assoc, append-nil, take_more, take-append-drop}
+use Rattle.std.proofs.lemmas.List.{length-append, append_assoc, append-nil, take_more, take-append-drop}
 use Rattle.std.proofs.lemmas.List.Edits.{paste_all, paste-paste}
 use Rattle.room.specs.declared.sheet.SheetEntry.{SheetEntry}
 use Rattle.std.specs.List.{flat_map}
@@ -16,15 +16,9 @@ written_more d at s t h =
     ∙ paste_all d at (s ++ t) (length s + length t) (sym (length-append s t))
     ∙ ap (λ k. take at d ++ ((s ++ t) ++ drop (at + k) d)) (sym (length-append s t))
 
-pub length_written_at : (d : List ℕ) (at : ℕ) (s : List ℕ) → at + length s ≤ length d → length (written_at d at s) ≡ length d
-length_written_at d at s h = simp (length-append, length-take, length-drop) (omega arith)
-
 pub written_then : (d e f : List ℕ) (at m : ℕ) (s t : List ℕ) → at ≤ length d → e ≡ written_at d at s → m ≡ at + length s → f ≡ written_at e m t → f ≡ written_at d at (s ++ t)
 written_then d e f at m s t h ee em ef =
     ef ∙ ap (λ z. written_at z m t) ee ∙ ap (λ k. written_at (written_at d at s) k t) em ∙ written_more d at s t h
-
-pub written_none : (d : List ℕ) (at : ℕ) → d ≡ written_at d at []
-written_none d at = let e : at ≡ at + 0 = omega arith in sym (take-append-drop at d) ∙ ap (λ k. take at d ++ drop k d) e
 
 pub length_line : (lot : ℕ) (p : SheetEntry) → length (line lot p) ≡ length (decimal lot) + length (decimal p.bidder) + length (decimal p.amount) + 3
 unfolding line

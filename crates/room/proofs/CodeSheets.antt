@@ -13,16 +13,13 @@ use Rattle.envelope.specs.Envelopes.{head_part, sealed_part, tag_part}
 use Rattle.envelope.proofs.Laws.{amount_in_le}
 use Rattle.room.specs.Sales.{Bytes}
 use Rattle.room.specs.Page.{line, page}
-use Rattle.room.specs.Places.{written_at}
-use Rattle.room.specs.Rooms.{Holding, Contents, envelope_in, holding_of, contents, no_slot}
-use Rattle.room.specs.Calls.{amount_held, amount_of_holding, listed, sheet_of}
+use Rattle.room.specs.Rooms.{Holding, Contents, envelope_in, holding_of, no_slot}
+use Rattle.room.specs.Calls.{amount_held, amount_of_holding, listed}
 use Rattle.room.specs.Opening.{written_over}
 use Rattle.room.specs.Slots.{room_of, sheet_in}
 use Rattle.room.specs.declared.sheet.SheetEntry.{SheetEntry}
-use Rattle.room.specs.declared.slots.Phase.{Phase}
 use Rattle.room.specs.declared.slots.Phase.TheVariants.{Closed}
 use Rattle.room.specs.declared.slots.Slot.{Slot}
-use Rattle.room.specs.declared.state.RoomState.{RoomState}
 use Rattle.room.proofs.CodePages.{length_line, page_length}
 
 -- A sheet, one slot more.
@@ -34,11 +31,6 @@ listed_append r (h ∷ hs) ks = go (ltb 0 (amount_of_holding r h)) (listed_appen
         → cond t (record { bidder = h.bidder; amount = amount_of_holding r h } ∷ listed r (hs ++ ks)) (listed r (hs ++ ks)) ≡ cond t (record { bidder = h.bidder; amount = amount_of_holding r h } ∷ listed r hs) (listed r hs) ++ listed r ks
     go true ih = ap (λ zs. record { bidder = h.bidder; amount = amount_of_holding r h } ∷ zs) ih
     go false ih = ih
-
-pub listed_same : (v : Variant) (lot : ℕ) (terms : Bytes) (p q : Phase) (xs ys : List Slot) (hs : List Holding) → listed (room_of v lot terms p xs) hs ≡ listed (room_of v lot terms q ys) hs
-listed_same v lot terms p q xs ys [] = refl
-listed_same v lot terms p q xs ys (h ∷ hs) =
-    ap (λ zs. cond (ltb 0 (amount_held v h.key terms h.envelope)) (record { bidder = h.bidder; amount = amount_held v h.key terms h.envelope } ∷ zs) zs) (listed_same v lot terms p q xs ys hs)
 
 module _ (v : Variant) (lot : ℕ) (terms : Bytes) where
   abbrev pub offered : Slot → ℕ
@@ -147,13 +139,6 @@ page_fits v lot terms xs h few all =
     let c = page_length lot (sheet_in v lot terms xs) in
     omega arith
 
--- The sheet and the page of a room, as they are written.
-pub sheet_is : (v : Variant) (r : RoomState) → sheet_in v r.lot (take r.terms_bytes r.terms) (take r.count r.slots) ≡ sheet_of (contents v r)
-sheet_is v r =
-    listed_same v r.lot (take r.terms_bytes r.terms) Closed r.phase [] (take r.count r.slots) (map (holding_of v r.lot) (take r.count r.slots))
-
+-- What is taken of a place that was written over.
 pub over_taken : {X : Type 0} (s old new : List X) (n : ℕ) → n ≡ length s → new ≡ written_over s old → take n new ≡ s
 over_taken s old new n en e = ap₂ take en e ∙ take_at s (drop (length s) old) (length s) refl
-
-pub at_start : (old new : Bytes) → written_at old 0 new ≡ written_over new old
-at_start old new = let z : 0 + length new ≡ length new = omega arith in ap (λ k. new ++ drop k old) z

@@ -5,14 +5,13 @@ ghost use Rattle.engine.specs.declared.variants.Variant.{Variant as Kind};
 ghost use Rattle.envelope.specs.Envelopes.{envelope_size};
 ghost use Rattle.room.specs.Slots.{filled, head_checks, tag_checks, fields_of};
 ghost use Rattle.room.specs.Calls.{Lodging, Asking, Closing, Met, without_number};
-ghost use Rattle.room.specs.declared.faults.RoomFault.TheVariants.{WrongTag as RoomWrongTag};
 
 use crate::admission::Op;
 use crate::conditions::Conditions;
 use crate::faults::RoomFault;
 use crate::slots::{Phase, Slot, place_of};
 use crate::state::RoomState;
-use cipher::{CipherFault, check};
+use cipher::{KEY_BYTES, check};
 use engine::Engine;
 use envelope::{HEAD_BYTES, HeadFields, LETTER_BYTES, envelope_bytes, parts_of};
 
@@ -28,12 +27,9 @@ impl RoomState {
             terms: &self.terms[..self.terms_bytes],
         };
         let head = conditions.read_head(envelope)?;
-        let i = match place_of(&self.slots[..self.count], head.bidder) {
-            Some(i) => i,
-            None => return Err(RoomFault::UnknownBidder),
-        };
-        let last = self.slots[i].sequence();
-        if head.sequence <= last {
+        let i = place_of(&self.slots[..self.count], head.bidder)?;
+        let Slot { sequence: last, .. } = &self.slots[i];
+        if head.sequence <= *last {
             return Err(RoomFault::SequenceNotAbove);
         }
         conditions.keep(&mut self.slots[i], head, envelope)
@@ -45,10 +41,9 @@ impl RoomState {
     {
         self.admits(Op::Ask)?;
         let slots = &self.slots[..self.count];
-        match place_of(slots, bidder) {
-            Some(i) => Ok(slots[i].sequence()),
-            None => Err(RoomFault::UnknownBidder),
-        }
+        let i = place_of(slots, bidder)?;
+        let Slot { sequence, .. } = &slots[i];
+        Ok(*sequence)
     }
 
     // Ends lodging.
@@ -69,11 +64,11 @@ impl<E: Engine> Conditions<'_, E> {
         if envelope.len() != envelope_bytes(self.engine.variant()) {
             return Err(RoomFault::EnvelopeLength);
         }
-        match parts_of(envelope) {
-            None => Err(RoomFault::EnvelopeLength),
-            Some(parts) if parts.head.lot != self.lot => Err(RoomFault::OtherLot),
-            Some(parts) => Ok(parts.head),
+        let parts = parts_of(envelope).ok_or(RoomFault::EnvelopeLength)?;
+        if parts.head.lot != self.lot {
+            return Err(RoomFault::OtherLot);
         }
+        Ok(parts.head)
     }
 
     // Keeps an envelope in its bidder's slot, where its tag is right.
@@ -88,30 +83,25 @@ impl<E: Engine> Conditions<'_, E> {
     }
 
     // Refuses an envelope with a wrong tag.
-    fn check_tag(&self, key: &[u8], head: HeadFields, envelope: &[u8]) -> Result<(), RoomFault>
-        requires key { length key.now ≡ 16 }
-        requires envelope { length envelope.now ≡ envelope_size (E.kind self.now.engine.now) }
+    fn check_tag(
+        &self,
+        key: &[u8; KEY_BYTES],
+        head: HeadFields,
+        envelope: &[u8],
+    ) -> Result<(), RoomFault>
+        requires { length envelope.now ≡ envelope_size (E.kind self.now.engine.now) }
         ensures { result ≡ decided (tag_checks (E.kind self.now.engine.now) key.now self.now.terms.now head envelope.now) tt }
     {
         let (nonce, rest) = envelope.split_at(HEAD_BYTES);
         let (letter, tag) = rest.split_at(LETTER_BYTES);
-        match check(self.engine, key, nonce, self.terms, letter, tag) {
-            Err(cause) => Err(wrong_tag(head, cause)),
-            Ok(text) => {
-                let _ = text.into_sealed();
-                Ok(())
-            }
-        }
-    }
-}
-
-// Tells at which head the cipher found a wrong tag.
-fn wrong_tag(head: HeadFields, cause: CipherFault) -> RoomFault
-    ensures { result ≡ RoomWrongTag head.bidder head.sequence cause }
-{
-    RoomFault::WrongTag {
-        bidder: head.bidder,
-        sequence: head.sequence,
-        cause,
+        let text = check(self.engine, key, nonce, self.terms, letter, tag).map_err(
+            |cause| RoomFault::WrongTag {
+                bidder: head.bidder,
+                sequence: head.sequence,
+                cause,
+            },
+        )?;
+        let _ = text.into_sealed();
+        Ok(())
     }
 }

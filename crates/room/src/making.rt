@@ -8,23 +8,20 @@ use crate::faults::RoomFault;
 use crate::register::RegisterEntry;
 use crate::slots::{Phase, Slot};
 use crate::state::{MOST_BIDDERS, RoomState};
+use cipher::KEY_BYTES;
 use envelope::MOST_TERMS_BYTES;
 
 impl RoomState {
-    // A fresh place: a closed room of lot 0 without bidders.
+    // A fresh place: by a rule of the project a closed room of lot 0 without bidders.
     pub fn fresh() -> RoomState
         ensures { Fresh result }
     {
-        let nobody = Slot::new(&RegisterEntry {
-            bidder: 0,
-            key: [0; 16],
-        });
         RoomState {
             phase: Phase::Closed,
             lot: 0,
             terms: [0; MOST_TERMS_BYTES],
             terms_bytes: 0,
-            slots: [nobody; MOST_BIDDERS],
+            slots: [Slot::new(0, [0; KEY_BYTES]); MOST_BIDDERS],
             count: 0,
         }
     }
@@ -63,7 +60,8 @@ fn enroll(slots: &mut [Slot], register: &[RegisterEntry])
 {
     // Indexed, since a proof knows nothing of slots that `iter_mut` has lent to a `zip`.
     for (i, entry) in register.iter().enumerate() {
-        slots[i] = Slot::new(entry);
+        let RegisterEntry { bidder, key } = entry;
+        slots[i] = Slot::new(*bidder, *key);
     }
 }
 

@@ -10,12 +10,11 @@ use crate::conditions::Conditions;
 use crate::slots::Slot;
 use cipher::{check, tag_bytes};
 use engine::Engine;
-use envelope::{HeadFields, amount_in, head_of};
+use envelope::{HeadFields, LETTER_BYTES, amount_in, head_of};
 
 impl<E: Engine> Conditions<'_, E> {
     // The amount that a slot's bidder offers. It is 0 where no envelope stands, as for a bid withdrawn: the rules do not tell these apart.
-    pub(crate) fn amount_of(&self, slot: &Slot, work: &mut [u8]) -> u64
-        requires { length work.old ≡ 64 }
+    pub(crate) fn amount_of(&self, slot: &Slot, work: &mut [u8; LETTER_BYTES]) -> u64
         ensures { result ≡ amount_held (E.kind self.now.engine.now) slot.now.key self.now.terms.now (envelope_in (E.kind self.now.engine.now) self.now.lot slot.now) }
     {
         if slot.sequence == 0 {
@@ -30,21 +29,19 @@ impl<E: Engine> Conditions<'_, E> {
         self.open_amount(&slot.key, &nonce, &slot.letter, &slot.tag[..t], work)
     }
 
-    // The amount in a sealed letter, if its tag is right. It takes slices, since a proof knows that their elements are bytes, and does not
-    // know it of a slot's arrays.
+    // The amount in a sealed letter, if its tag is right. Key and nonce are slices: tried as arrays, and the proof did not close, since the
+    // elements of a lent slice are known to be bytes, and those of a lent array are not.
     fn open_amount(
         &self,
         key: &[u8],
         nonce: &[u8],
-        sealed: &[u8],
+        sealed: &[u8; LETTER_BYTES],
         tag: &[u8],
-        work: &mut [u8],
+        work: &mut [u8; LETTER_BYTES],
     ) -> u64
         requires key { length key.now ≡ 16 }
         requires nonce { length nonce.now ≡ 12 }
-        requires sealed { length sealed.now ≡ 64 }
         requires tag { length tag.now ≡ tag_size (E.kind self.now.engine.now) }
-        requires work { length work.old ≡ 64 }
         ensures { result ≡ (if bytes_eq tag.now (tag_of (E.kind self.now.engine.now) key.now nonce.now self.now.terms.now sealed.now) then amount_offered (opened_text (E.kind self.now.engine.now) key.now nonce.now sealed.now) else 0) }
     {
         match check(self.engine, key, nonce, self.terms, sealed, tag) {

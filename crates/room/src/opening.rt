@@ -20,29 +20,27 @@ use envelope::LETTER_BYTES;
 // The longest page: the line of names and 64 lines of 35 bytes.
 pub const MOST_PAGE_BYTES: usize = 2258;
 
-// Refuses places that have not their sizes.
-pub(crate) fn check_places(sheet: usize, page: usize, work: usize) -> Result<(), RoomFault>
-    ensures { result ≡ decided ((nat_le 64 sheet && (nat_le 2258 page && work == 64), Places) ∷ []) tt }
+// Refuses a sheet and a page that have not their sizes.
+pub(crate) fn check_places(sheet: &[SheetEntry], page: &[u8]) -> Result<(), RoomFault>
+    ensures { result ≡ decided ((nat_le 64 (length sheet.now) && nat_le 2258 (length page.now), Places) ∷ []) tt }
 {
-    if sheet < MOST_BIDDERS || page < MOST_PAGE_BYTES || work != LETTER_BYTES {
+    if sheet.len() < MOST_BIDDERS || page.len() < MOST_PAGE_BYTES {
         return Err(RoomFault::Places);
     }
     Ok(())
 }
 
 impl RoomState {
-    // Fills the sheet and writes the page, and answers the length of the page. The work area is passed on as the slice that the caller lent,
-    // since making an array of it would test its length once more.
+    // Fills the sheet and writes the page, and answers the length of the page.
     pub(crate) fn print<E: Engine>(
         &self,
         engine: &E,
         sheet: &mut [SheetEntry],
         page: &mut [u8],
-        work: &mut [u8],
+        work: &mut [u8; LETTER_BYTES],
     ) -> usize
         requires sheet { 64 ≤ length sheet.old }
         requires page { 2258 ≤ length page.old }
-        requires work { length work.old ≡ 64 }
         ensures answer { result ≡ length (page_of_room (contents (E.kind engine.now) self.now)) }
         ensures sheet { sheet.new ≡ written_over (sheet_of (contents (E.kind engine.now) self.now)) sheet.old }
         ensures page { page.new ≡ written_over (page_of_room (contents (E.kind engine.now) self.now)) page.old }
@@ -58,10 +56,16 @@ impl RoomState {
 }
 
 impl<E: Engine> Conditions<'_, E> {
-    // Lists on the sheet each bidder whose amount is above 0, and answers how many there are.
-    fn fill_sheet(&self, slots: &[Slot], sheet: &mut [SheetEntry], work: &mut [u8]) -> usize
-        requires sheet { length slots.now ≤ length sheet.old }
-        requires work { length work.old ≡ 64 }
+    // Lists on the sheet each bidder whose amount is above 0, and answers how many there are. That the bidders' numbers fit is said here of
+    // slots, as by `enroll` of a register, since a number is known to fit where it is read. A ghost field of the slot in its place: tried, and
+    // the proof did not close, since a slot with one could not be lent while the room's terms are.
+    fn fill_sheet(
+        &self,
+        slots: &[Slot],
+        sheet: &mut [SheetEntry],
+        work: &mut [u8; LETTER_BYTES],
+    ) -> usize
+        requires { length slots.now ≤ length sheet.old }
         ensures count { result ≡ length (sheet_in (E.kind self.now.engine.now) self.now.lot self.now.terms.now slots.now) }
         ensures sheet { sheet.new ≡ written_over (sheet_in (E.kind self.now.engine.now) self.now.lot self.now.terms.now slots.now) sheet.old }
         ensures fit { AllByRecursion (λ x. x.bidder < 2 ^ 32) slots.now }
@@ -69,9 +73,12 @@ impl<E: Engine> Conditions<'_, E> {
         // The count goes from call to call, since only an amount above 0 takes a place of the sheet.
         let mut n = 0;
         for slot in slots {
-            let bidder = slot.bidder();
-            let amount = self.amount_of(slot, work);
-            n = put_entry(sheet, n, SheetEntry { bidder, amount });
+            let Slot { bidder, .. } = slot;
+            let offer = SheetEntry {
+                bidder: *bidder,
+                amount: self.amount_of(slot, work),
+            };
+            n = put_entry(sheet, n, offer);
         }
         n
     }

@@ -25,7 +25,7 @@ fn put_lines(page: &mut [u8], start: usize, lot: u32, sheet: &[SheetEntry]) -> u
     ensures page { page.new ≡ written_at page.old start (flat_map (line_of lot) sheet.now) }
 {
     let mut at = start;
-    // Indexed, since the page takes the sheet's entries by their place.
+    // By a rule of the project the page is written by a loop with an index over the sheet.
     for i in 0..sheet.len() {
         at = put_line(page, at, lot, sheet[i]);
     }

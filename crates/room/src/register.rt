@@ -1,7 +1,7 @@
 // The register of a lot: who may bid, and under which key.
-ghost use Rattle.std.specs.Prelude.{◌≡◌};
 ghost use Rattle.list.specs.Order.{by_key, by_key_is_total};
 
+use cipher::KEY_BYTES;
 use list::Entry;
 use std::cmp::Ordering;
 
@@ -9,16 +9,7 @@ use std::cmp::Ordering;
 #[derive(Clone, Copy)]
 pub struct RegisterEntry {
     pub bidder: u32,
-    pub key: [u8; 16],
-}
-
-impl RegisterEntry {
-    // Called where a proof needs the range of the number: it has that of a result, and not that of a field that is read through a reference.
-    pub(crate) fn bidder(&self) -> u32
-        ensures { result ≡ self.now.bidder }
-    {
-        self.bidder
-    }
+    pub key: [u8; KEY_BYTES],
 }
 
 // A register is ordered by bidder.

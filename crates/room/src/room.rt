@@ -74,7 +74,8 @@ impl<'r, E: Engine + Drop> Room<'r, E> {
     {
         let guard = Guard { work };
         self.inner.admits(Op::Open)?;
-        check_places(sheet.len(), page.len(), guard.work.len())?;
-        Ok(self.inner.print(&self.engine, sheet, page, guard.work))
+        check_places(sheet, page)?;
+        let work = guard.work.as_mut_array().ok_or(RoomFault::Places)?;
+        Ok(self.inner.print(&self.engine, sheet, page, work))
     }
 }

@@ -1,9 +1,10 @@
 // What a room keeps for each registered bidder, and its phase.
-ghost use Rattle.std.specs.Prelude.{◌≡◌, ◌^◌, ◌<◌, ◌≤◌, length, MatchOption};
+ghost use Rattle.std.specs.Prelude.{◌≡◌, ◌^◌, ◌<◌, ◌≤◌, length, MatchResult};
 ghost use Rattle.room.specs.Slots.{filled, new_slot, IsFirst, HasNone};
+ghost use Rattle.room.specs.declared.faults.RoomFault.TheVariants.{UnknownBidder};
 
-use crate::register::RegisterEntry;
-use cipher::MOST_TAG_BYTES;
+use crate::faults::RoomFault;
+use cipher::{KEY_BYTES, MOST_TAG_BYTES};
 use envelope::{HEAD_BYTES, LETTER_BYTES};
 
 // A room is open for lodging until it is closed.
@@ -17,10 +18,12 @@ pub enum Phase {
 // tag. A tag of eight bytes stands in the first eight.
 // The sequence is a plain number and no Option: asking answers it as it is, and by the rules of lodging it is the last accepted sequence, which
 // is 0 at first.
+// By a rule of the project a slot has its key, letter and tag arrays itself: so it holds no register entry, and its tag is an array with
+// room for the longest, cut to the variant's where it is read.
 #[derive(Clone, Copy)]
 pub struct Slot {
     pub bidder: u32,
-    pub key: [u8; 16],
+    pub key: [u8; KEY_BYTES],
     pub sequence: u32,
     pub letter: [u8; LETTER_BYTES],
     pub tag: [u8; MOST_TAG_BYTES],
@@ -28,12 +31,9 @@ pub struct Slot {
 
 impl Slot {
     // The slot of a registered bidder from whom nothing was accepted yet.
-    pub(crate) fn new(entry: &RegisterEntry) -> Slot
-        ensures slot { result ≡ new_slot entry.now }
-        ensures fits { entry.now.bidder < 2 ^ 32 }
+    pub(crate) fn new(bidder: u32, key: [u8; KEY_BYTES]) -> Slot
+        ensures { result ≡ new_slot (record { bidder = bidder; key = key }) }
     {
-        let bidder = entry.bidder();
-        let key = entry.key;
         Slot {
             bidder,
             key,
@@ -41,20 +41,6 @@ impl Slot {
             letter: [0; LETTER_BYTES],
             tag: [0; MOST_TAG_BYTES],
         }
-    }
-
-    // These two are called where a proof needs the range of the number: it has that of a result, and not that of a field that is read
-    // through a reference.
-    pub(crate) fn bidder(&self) -> u32
-        ensures { result ≡ self.now.bidder }
-    {
-        self.bidder
-    }
-
-    pub(crate) fn sequence(&self) -> u32
-        ensures { result ≡ self.now.sequence }
-    {
-        self.sequence
     }
 
     // Takes an accepted envelope of the slot's bidder.
@@ -69,9 +55,13 @@ impl Slot {
     }
 }
 
-// The place of a bidder's slot.
-pub(crate) fn place_of(slots: &[Slot], bidder: u32) -> Option<usize>
-    ensures { MatchOption result (HasNone slots.now bidder) (λ i. IsFirst slots.now bidder i) }
+// The place of a bidder's slot. The slots are looked at one by one: there are at most 64, and `position` says it plainly. A binary search
+// would need that they rise by bidder, which those of a place with any content need not.
+pub(crate) fn place_of(slots: &[Slot], bidder: u32) -> Result<usize, RoomFault>
+    ensures { MatchResult result (λ i. IsFirst slots.now bidder i) (λ f. HasNone slots.now bidder × (f ≡ UnknownBidder)) }
 {
-    slots.iter().position(|slot| slot.bidder == bidder)
+    slots
+        .iter()
+        .position(|slot| slot.bidder == bidder)
+        .ok_or(RoomFault::UnknownBidder)
 }

@@ -8,7 +8,8 @@ use envelope::MOST_TERMS_BYTES;
 pub const MOST_BIDDERS: usize = 64;
 
 // The terms are the first `terms_bytes` of their array, and the slots in use the first `count`, in the register's order.
-// These are arrays with counts and no Vec, since this layer has no heap: the caller lends the place whole, with room for the most of each.
+// These are arrays with counts and no Vec: by a rule of the project a room's place is a plain struct of arrays that the caller lends, with
+// room for the most of each.
 #[derive(Drop)]
 pub struct RoomState {
     pub(crate) phase: Phase,

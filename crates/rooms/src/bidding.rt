@@ -1,13 +1,13 @@
 // Envelopes of bids, as bidders make them.
 use anyhow::anyhow;
-use cipher::{seal, tag_bytes};
+use cipher::{KEY_BYTES, seal, tag_bytes};
 use engine::Engine;
 use envelope::{EnvelopeFault, HeadFields, LETTER_BYTES, Pen, head_of, seal_bid};
 use std::alloc::Global;
 
 // The key of a bidder.
-pub fn key_of(bidder: u32) -> [u8; 16] {
-    [(bidder % 256) as u8; 16]
+pub fn key_of(bidder: u32) -> [u8; KEY_BYTES] {
+    [(bidder % 256) as u8; KEY_BYTES]
 }
 
 // Seals a bid with the next head of a pen.

@@ -4,7 +4,8 @@ use engine::Engine;
 use envelope::{HeadFields, LETTER_BYTES, Pen, envelope_bytes};
 use fault::Fault;
 use room::{MOST_BIDDERS, MOST_PAGE_BYTES, RegisterEntry, Room, RoomFault, RoomState, SheetEntry};
-use std::fmt;
+use std::io::Write;
+use std::{fmt, io};
 
 const LOT: u32 = 17;
 
@@ -62,12 +63,7 @@ fn print_page<E: Engine + Copy>(rt: &HostRuntime, room: &mut Room<E>) -> anyhow:
     let mut page = [0u8; MOST_PAGE_BYTES];
     let mut work = [0u8; LETTER_BYTES];
     match room.open(&mut sheet, &mut page, &mut work) {
-        Ok(n) => {
-            // A page is bytes, and printed as such.
-            for byte in page.iter().take(n) {
-                print!(rt; "{}", char::from(*byte))?;
-            }
-        }
+        Ok(n) => io::writer(rt).write_all(&page[..n])?,
         Err(f) => println!(rt; "opening: refused with {}", f.number())?,
     }
     Ok(())

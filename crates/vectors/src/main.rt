@@ -4,12 +4,13 @@
 
 ghost use Rattle.std.specs.Prelude.{◌≡◌, ℕ, ◌<◌};
 
+mod asked;
 mod published;
 mod records;
 mod tallies;
 mod trials;
 
-use anyhow::anyhow;
+use asked::{Asked, EngineName};
 use cipher::cipher_laws_stand;
 use circuit::Circuit;
 use engine::{Engine, Plain, Variant, permutation_laws_stand};
@@ -17,16 +18,9 @@ use interleaved::Interleaved;
 use published::{try_keccak, try_spongent};
 use records::{Answers, read_answers};
 use std::alloc::Global;
-use std::{env, fs};
+use std::fs;
 use tallies::Tally;
 use trials::agrees;
-
-// The names of the engines.
-const PLAIN: &str = "plain";
-
-const CIRCUIT: &str = "circuit";
-
-const INTERLEAVED: &str = "interleaved";
 
 // What is published of the permutations.
 const KECCAK: &str = "published values of Keccak-f[200]";
@@ -41,43 +35,32 @@ fn file_of(variant: Variant) -> &'static str {
     }
 }
 
-// What the arguments ask for: every how many records one is tried by the plain engine, which is slow (the others try all), and
-// the only engine that is run, if one is named.
+// An engine, and the name that it is asked for by and told by.
 #[derive(Drop)]
-struct Asked {
-    step: usize,
-    engine: Option<String>,
-    ghost above: { 0 < step },
+struct Named<E> {
+    name: EngineName,
+    engine: E,
 }
 
-impl Asked {
-    // Whether the engine of a name is run.
-    fn wants(&self, name: &str) -> bool {
-        match &self.engine {
-            None => true,
-            Some(only) => only.as_str() == name,
-        }
+fn plain(variant: Variant) -> Named<Plain> {
+    Named {
+        name: EngineName::Plain,
+        engine: Plain { variant },
     }
 }
 
-// Reads the arguments. Without them every record is tried by every engine.
-fn asked_for(rt: &HostRuntime) -> anyhow::Result<Asked> {
-    let mut words = env::args(rt)?;
-    let _program = words.next();
-    let Some(word) = words.next() else {
-        return Ok(Asked {
-            step: 1,
-            engine: None,
-        });
-    };
-    let step = word.as_str().parse::<usize>()?;
-    if step == 0 {
-        return Err(anyhow!("the first argument is the distance of the records tried, from 1 up"));
+fn circuit(engine: Circuit) -> Named<Circuit> {
+    Named {
+        name: EngineName::Circuit,
+        engine,
     }
-    Ok(Asked {
-        step,
-        engine: words.next(),
-    })
+}
+
+fn interleaved() -> Named<Interleaved> {
+    Named {
+        name: EngineName::Interleaved,
+        engine: Interleaved,
+    }
 }
 
 // Runs published values through an engine of their permutation, by a trial that counts those met.
@@ -85,14 +68,14 @@ fn run_values<E: Engine, F: FnOnce(Global, &E) -> Tally>(
     rt: &HostRuntime,
     asked: &Asked,
     values: &str,
-    name: &str,
-    engine: &E,
+    named: &Named<E>,
     trial: F,
 ) -> anyhow::Result<()>
     requires { F.IsAlwaysCallable trial }
 {
+    let name = named.name;
     if asked.wants(name) {
-        let tally = trial(rt.alloc(), engine);
+        let tally = trial(rt.alloc(), &named.engine);
         println!(rt; "{values}, {name} engine: {tally}")?;
     }
     Ok(())
@@ -100,29 +83,24 @@ fn run_values<E: Engine, F: FnOnce(Global, &E) -> Tally>(
 
 // Runs the published values through each engine that has their permutation.
 fn run_published(rt: &HostRuntime, asked: &Asked) -> anyhow::Result<()> {
-    let (delirium, jumbo) = (Variant::Delirium, Variant::Jumbo);
-    let plain = Plain { variant: delirium };
-    run_values(rt, asked, KECCAK, PLAIN, &plain, try_keccak)?;
-    run_values(rt, asked, KECCAK, INTERLEAVED, &Interleaved, try_keccak)?;
-    let plain = Plain { variant: jumbo };
-    run_values(rt, asked, SPONGENT, PLAIN, &plain, try_spongent)?;
-    run_values(rt, asked, SPONGENT, CIRCUIT, &Circuit::Jumbo, try_spongent)
+    run_values(rt, asked, KECCAK, &plain(Variant::Delirium), try_keccak)?;
+    run_values(rt, asked, KECCAK, &interleaved(), try_keccak)?;
+    run_values(rt, asked, SPONGENT, &plain(Variant::Jumbo), try_spongent)?;
+    run_values(rt, asked, SPONGENT, &circuit(Circuit::Jumbo), try_spongent)
 }
 
-// Tries records by an engine, and tells each that does not agree.
+// Tries records by an engine, all or every so many, and tells each that does not agree.
 fn try_records<E: Engine>(
     rt: &HostRuntime,
-    step: usize,
-    name: &str,
-    engine: &E,
+    asked: &Asked,
+    named: &Named<E>,
     answers: &Answers,
-) -> anyhow::Result<Tally>
-    requires { 0 < step }
-{
-    let variant = engine.variant();
+) -> anyhow::Result<Tally> {
+    let name = named.name;
+    let variant = named.engine.variant();
     let mut tally = Tally::new();
-    for record in answers.records.iter().step_by(step) {
-        let agreed = agrees(rt.alloc(), engine, record)?;
+    for record in answers.records.iter().step_by(asked.step(name)) {
+        let agreed = agrees(rt.alloc(), &named.engine, record)?;
         tally.count(agreed);
         if !agreed {
             let number = record.number;
@@ -132,20 +110,17 @@ fn try_records<E: Engine>(
     Ok(tally)
 }
 
-// Runs the records through an engine of their variant, each or every step-th.
+// Runs the records through an engine of their variant.
 fn run_engine<E: Engine>(
     rt: &HostRuntime,
     asked: &Asked,
-    step: usize,
-    name: &str,
-    engine: &E,
+    named: &Named<E>,
     answers: &Answers,
-) -> anyhow::Result<()>
-    requires { 0 < step }
-{
+) -> anyhow::Result<()> {
+    let name = named.name;
     if asked.wants(name) {
-        let variant = engine.variant();
-        let tally = try_records(rt, step, name, engine, answers)?;
+        let variant = named.engine.variant();
+        let tally = try_records(rt, asked, named, answers)?;
         println!(rt; "{variant}, {name} engine: {tally}")?;
     }
     Ok(())
@@ -158,18 +133,18 @@ fn run_variant(rt: &HostRuntime, asked: &Asked, variant: Variant) -> anyhow::Res
     let read = answers.records.len();
     let unreadable = answers.unreadable;
     println!(rt; "{variant}: {read} records read, {unreadable} could not be read")?;
-    run_engine(rt, asked, asked.step, PLAIN, &Plain { variant }, &answers)?;
+    run_engine(rt, asked, &plain(variant), &answers)?;
     match variant {
-        Variant::Dumbo => run_engine(rt, asked, 1, CIRCUIT, &Circuit::Dumbo, &answers),
-        Variant::Jumbo => run_engine(rt, asked, 1, CIRCUIT, &Circuit::Jumbo, &answers),
-        Variant::Delirium => run_engine(rt, asked, 1, INTERLEAVED, &Interleaved, &answers),
+        Variant::Dumbo => run_engine(rt, asked, &circuit(Circuit::Dumbo), &answers),
+        Variant::Jumbo => run_engine(rt, asked, &circuit(Circuit::Jumbo), &answers),
+        Variant::Delirium => run_engine(rt, asked, &interleaved(), &answers),
     }
 }
 
 fn run(rt: &HostRuntime) -> anyhow::Result<()> {
     permutation_laws_stand();
     cipher_laws_stand();
-    let asked = asked_for(rt)?;
+    let asked = Asked::read(rt)?;
     run_published(rt, &asked)?;
     for variant in [Variant::Dumbo, Variant::Jumbo, Variant::Delirium] {
         run_variant(rt, &asked, variant)?;

@@ -1,4 +1,5 @@
 use Rattle.std.proofs.Common.{◌≡◌, ℕ, Bool, true, false, cond, List, length, Ok, Err, Result, sym, ap, ◌∙◌, ap₂, arith, rules}
+use Rattle.std.specs.Int.{w128, from_be_bytes}
 use Rattle.std.specs.Int.Digits.{number_from_digits}
 use Rattle.std.specs.Str.{bytes_eq}
 use Rattle.std.proofs.lemmas.List.{take_all}
@@ -10,6 +11,7 @@ use Rattle.cipher.specs.Theorems.{LawfulSizes}
 use Rattle.cipher.specs.declared.faults.CipherFault.{CipherFault}
 use Rattle.cipher.specs.declared.faults.CipherFault.TheVariants.{WrongTag}
 use Rattle.engine.specs.declared.variants.Variant.{Variant}
+use Rattle.cipher.proofs.Bytes.{sixteen_read}
 use Rattle.cipher.proofs.Laws.{sized_check}
 use Rattle.cipher.proofs.checked.check.Goals as goal
 
@@ -71,6 +73,6 @@ returns g c =
     let right : true ≡ bytes_eq tag_place (tag_from (g.E.Engine.kind keyed.engine.now) (held (g.E.Engine.kind keyed.engine.now) keyed.first) nonce ad sealed) = search rules in
     let same = tested v (held v keyed.first) key nonce c.args.nonce.now ad sealed tag_place true (c.in_ok-keyed.ensures.1 ∙ ap (first_mask v) ek) en
     (right ∙ ap (λ e. bytes_eq tag_place (tag_from (g.E.Engine.kind e) (held (g.E.Engine.kind e) keyed.first) nonce ad sealed)) c.in_ok-keyed.ensures.0) in
-    passed v c.variant-variant.result c.number_of.result c.number_of-2.result key c.args.nonce.now ad sealed tag_place sizes same c.variant-variant.ensures.answer
-    (c.number_of.ensures ∙ ap (number_from_digits 256) (take_all 16 key (omega arith)))
-    (c.number_of-2.ensures ∙ ap (number_from_digits 256) (take_all 16 c.args.nonce.now (omega arith)))
+    passed v c.variant-variant.result c.from_be_bytes.result c.number_of.result key c.args.nonce.now ad sealed tag_place sizes same c.variant-variant.ensures.answer
+    (c.from_be_bytes.ensures ∙ ap (from_be_bytes w128) ek ∙ sixteen_read key lk)
+    (c.number_of.ensures ∙ ap (number_from_digits 256) (take_all 16 c.args.nonce.now (omega arith)))

@@ -2,11 +2,8 @@ use Rattle.std.proofs.Common.{◌≡◌, eqb, ap, ◌∙◌, fold, rules, tests,
 use Rattle.std.specs.List.{zip}
 use Rattle.std.proofs.lemmas.Iterator.{YieldsList-from_zip, YieldsList-from_slice}
 use Rattle.std.proofs.lemmas.Iterator.Consumers.{fold_from_yields_List}
-use Rattle.cipher.proofs.XorLaws.{differing, same_tested, other_length}
+use Rattle.cipher.proofs.XorLaws.{differing, same_tested}
 use Rattle.cipher.proofs.xor.equal.Goals as goal
-
-pub returns-then-a-b : goal.returns-then-a-b
-returns-then-a-b c = other_length c.args.a.now c.args.b.now c.if-a-b.true
 
 pub returns : goal.returns
 returns c =

@@ -1,4 +1,4 @@
-use Rattle.std.proofs.Common.{◌≡◌, ◌++◌, codes, sym, ap, ◌∙◌}
+use Rattle.std.proofs.Common.{◌++◌, codes, sym, ap, ◌∙◌}
 use Rattle.room.specs.Calls.{page_of_room}
 use Rattle.room.specs.Rooms.{contents}
 use Rattle.room.proofs.CodeChecks.{not_both}

@@ -1,12 +1,11 @@
 use Rattle.std.proofs.Common.{◌≡◌, ◌+◌, ◌≤◌, [], ◌∷◌, ◌++◌, length, decimal, ap, ◌∙◌, arith}
 use Rattle.std.proofs.lemmas.List.{length-append}
 use Rattle.room.specs.Places.{written_at}
-use Rattle.room.proofs.CodePages.{written_then, length_line, line_parts}
+use Rattle.room.proofs.CodePages.{written_then, line_parts}
 use Rattle.room.proofs.printing.put_line.Goals as goal
 
-pub returns : goal.returns
-returns c =
-    let e = length_line c.args.lot c.args.offer in
+pub returns-clause-page : goal.returns-clause-page
+returns-clause-page c =
     let h : c.args.at ≤ length c.args.page.now = omega arith in
     let d0 = c.args.page.now in
     let s1 = decimal c.args.lot in
@@ -23,4 +22,4 @@ returns c =
     let p4 = written_then d0 _ _ c.args.at c.put_number-c.result s3 (44 ∷ []) h p3 (omega arith) c.put-d.ensures.page in
     let p5 = written_then d0 _ _ c.args.at c.put-d.result s4 (decimal c.args.offer.amount) h p4 (omega arith) c.put_number-e.ensures.page in
     let p6 = written_then d0 _ _ c.args.at c.put_number-e.result s5 (10 ∷ []) h p5 (omega arith) c.put.ensures.page in
-    record { end = omega arith; page = p6 ∙ ap (written_at d0 c.args.at) (line_parts c.args.lot c.args.offer) }
+    p6 ∙ ap (written_at d0 c.args.at) (line_parts c.args.lot c.args.offer)

@@ -1,6 +1,6 @@
-use Rattle.std.proofs.Common.{◌≡◌, ◌+◌, ◌<◌, length, get_or, take, sym, ap, ◌∙◌, arith}
+use Rattle.std.proofs.Common.{◌<◌, length, get_or, take, sym, ap, ◌∙◌, arith}
 use Rattle.std.specs.List.{flat_map}
-use Rattle.std.proofs.lemmas.List.{length-append, take_all}
+use Rattle.std.proofs.lemmas.List.{length-append}
 use Rattle.room.specs.Page.{line}
 use Rattle.room.specs.Places.{written_at}
 use Rattle.room.proofs.CodePages.{written_then, lines_more, line_fits, none_listed}
@@ -22,11 +22,3 @@ loop-i-preserved c =
       written_then c.args.page.now c.loop-i.page _ c.args.start c.loop-i.at ps x (omega arith) c.loop-i.invariant.1 c.loop-i.invariant.0 c.put_line-at.ensures.page
           ∙ ap (written_at c.args.page.now c.args.start) (sym m),
     )
-
-pub returns : goal.returns
-returns c =
-    let e : take c.loop-i.i c.args.sheet.now ≡ c.args.sheet.now = take_all c.loop-i.i c.args.sheet.now (omega arith) in
-    record {
-      end = c.loop-i.invariant.0 ∙ ap (λ z. c.args.start + length (flat_map (line c.args.lot) z)) e;
-      page = c.loop-i.invariant.1 ∙ ap (λ z. written_at c.args.page.now c.args.start (flat_map (line c.args.lot) z)) e;
-    }

@@ -5,6 +5,7 @@ use Rattle.cipher.specs.Blocks.{padded}
 use Rattle.cipher.specs.Masks.{first_mask}
 use Rattle.cipher.specs.Mode.{streamed, opened_text}
 use Rattle.cipher.specs.Groups.{held}
+use Rattle.cipher.proofs.Bytes.{bytes_given}
 use Rattle.cipher.proofs.checked.Checked.open_by.Goals as goal
 
 pub returns-clause-out : goal.returns-clause-out
@@ -13,9 +14,9 @@ returns-clause-out g c =
     let v = g.E.Engine.kind c.args.engine.now in
     let t = c.args.self.now in
     let keyed = c.in_ok-new.field-0 in
-    let key : c.put_number.new.out ≡ bytes_of 16 t.key = c.put_number.ensures in
-    let nonce : c.put_number-2.new.out ≡ bytes_of 12 t.nonce = c.put_number-2.ensures in
+    let key : c.to_be_bytes.result ≡ bytes_of 16 t.key = c.to_be_bytes.ensures ∙ bytes_given 16 t.key in
+    let nonce : c.put_number.new.out ≡ bytes_of 12 t.nonce = c.put_number.ensures in
     c.stream.ensures.out
-    ∙ ap (λ e. streamed (g.E.Engine.kind e) (held (g.E.Engine.kind e) keyed.first) (padded (block_size (g.E.Engine.kind e)) c.put_number-2.new.out) t.sealed.now) c.in_ok-new.ensures.0
+    ∙ ap (λ e. streamed (g.E.Engine.kind e) (held (g.E.Engine.kind e) keyed.first) (padded (block_size (g.E.Engine.kind e)) c.put_number.new.out) t.sealed.now) c.in_ok-new.ensures.0
     ∙ ap₂ (λ f m. streamed v f (padded (block_size v) m) t.sealed.now) (c.in_ok-new.ensures.1 ∙ ap (first_mask v) key) nonce
     ∙ ap (λ w. streamed w (first_mask w (bytes_of 16 t.key)) (padded (block_size w) (bytes_of 12 t.nonce)) t.sealed.now) c.requires.variant

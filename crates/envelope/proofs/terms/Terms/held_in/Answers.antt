@@ -1,4 +1,4 @@
-use Rattle.std.proofs.Common.{◌<◌}
+use Rattle.std.proofs.Common.{◌<◌, rules}
 use Rattle.std.proofs.ByRecursion.{All-from_get_or}
 use Rattle.envelope.proofs.TermsLaws.{held_back}
 use Rattle.envelope.proofs.terms.Terms.held_in.Goals as goal
@@ -6,5 +6,5 @@ use Rattle.envelope.proofs.terms.Terms.held_in.Goals as goal
 pub returns : goal.returns
 returns c =
     let xs = c.args.held.now in
-    held_back xs _ c.requires.held (All-from_get_or (λ d. d < 256) xs 0 (λ i h. (c.type_inv.held i).fits))
+    held_back xs _ (search rules) (All-from_get_or (λ d. d < 256) xs 0 (λ i h. c.fits-held i))
     c.number_of.ensures c.number_of-2.ensures c.number_of-3.ensures c.number_of-4.ensures
