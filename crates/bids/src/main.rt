@@ -15,13 +15,22 @@ const KEY: [u8; KEY_BYTES] = [7; KEY_BYTES];
 
 const TERMS: &[u8] = b"bows";
 
+// One byte more than terms may have.
+const LONG_TERMS: &[u8] = &[65; 65];
+
 const ENVELOPE_BYTES: usize = 84;
 
 fn main(rt: HostRuntime) -> io::Result<()> {
     println!(rt; "lot,bidder,sequence,tag,amount")?;
-    match Pen::new(17, TERMS) {
-        Err(f) => refused(&rt, f),
-        Ok(mut pen) => all_bids(&rt, &mut pen),
+    with_pen(&rt, TERMS)?;
+    with_pen(&rt, LONG_TERMS)
+}
+
+// Makes a pen for terms, and seals all bids with its heads.
+fn with_pen(rt: &HostRuntime, terms: &[u8]) -> io::Result<()> {
+    match Pen::new(17, terms) {
+        Err(f) => refused(rt, f),
+        Ok(mut pen) => all_bids(rt, &mut pen),
     }
 }
 
@@ -90,6 +99,7 @@ fn all_bids(rt: &HostRuntime, pen: &mut Pen) -> io::Result<()> {
 // Takes a head, seals a bid with it, and shows the envelope.
 fn one_bid(rt: &HostRuntime, pen: &mut Pen, bid: &Bid) -> io::Result<()> {
     let mut envelope = [0u8; ENVELOPE_BYTES];
+    // Cut, since one of the bids is refused for a place that is too short.
     let place = &mut envelope[..bid.size.min(ENVELOPE_BYTES)];
     let sealed = match pen.take(bid.bidder) {
         Err(f) => Err(f),
@@ -101,8 +111,20 @@ fn one_bid(rt: &HostRuntime, pen: &mut Pen, bid: &Bid) -> io::Result<()> {
     }
 }
 
+// Tells a refusal, and the fault of the cipher that it may hold.
 fn refused(rt: &HostRuntime, f: EnvelopeFault) -> io::Result<()> {
-    println!(rt; "refused with {}", f.number())
+    print!(rt; "refused with ")?;
+    tell(rt, f)?;
+    if let EnvelopeFault::Cipher(held) = f {
+        print!(rt; ", which holds ")?;
+        tell(rt, held)?;
+    }
+    println!(rt)
+}
+
+// Tells a fault's number, layer and place.
+fn tell<F: Fault>(rt: &HostRuntime, f: F) -> io::Result<()> {
+    print!(rt; "{} by {:?} at {:?}", f.number(), f.layer(), f.place())
 }
 
 // Reads an envelope: its head, its tag and its letter.

@@ -22,6 +22,7 @@ use Rattle.cipher.specs.declared.faults.CipherFault.TheVariants.{WrongTag}
 use Rattle.cipher.proofs.XorLaws.{length_xored}
 use Rattle.cipher.proofs.MaskLaws.{enciphered_length}
 use Rattle.cipher.proofs.PartLaws.{padded_length}
+use Rattle.cipher.proofs.AnswerLaws.{answer_laws}
 
 xor_twice : (x k : ℕ) → bit_xor (bit_xor x k) k ≡ x
 xor_twice x k = xor_assoc x k k ∙ ap (bit_xor x) (xor_self k) ∙ xor_zero_r x
@@ -60,9 +61,9 @@ unfolding summed
 summed_length f zero i b = refl
 summed_length f (suc k) i b = summed_length f k (suc i) (xored b (f i)) ∙ length_xored b (f i)
 
-pub tag_sum_length : (v : Variant) (first nonce ad sealed : List ℕ) → length (tag_sum v first nonce ad sealed) ≡ block_size v
+pub tag_sum_length : (v : Variant) (first nonce associated sealed : List ℕ) → length (tag_sum v first nonce associated sealed) ≡ block_size v
 unfolding tag_sum associated_sum absorbed part
-tag_sum_length v first nonce ad sealed = summed_length _ _ _ _ ∙ summed_length _ _ _ _ ∙ padded_length (block_size v) _
+tag_sum_length v first nonce associated sealed = summed_length _ _ _ _ ∙ summed_length _ _ _ _ ∙ padded_length (block_size v) _
 
 tag_fits : (v : Variant) → tag_size v ≤ block_size v
 tag_fits Dumbo = lit≤ tt
@@ -74,22 +75,22 @@ pub tag_held : (v : Variant) (room block : List ℕ) (m : ℕ) → m ≡ tag_siz
 tag_held v room block m size e =
     ap (λ k. take k room) size ∙ sym (take-take (tag_size v) (block_size v) room (tag_fits v)) ∙ ap (take (tag_size v)) e
 
-pub tag_length : (v : Variant) (key nonce ad sealed : List ℕ) → length (tag v key nonce ad sealed) ≡ tag_size v
+pub tag_length : (v : Variant) (key nonce associated sealed : List ℕ) → length (tag v key nonce associated sealed) ≡ tag_size v
 unfolding tag tag_from
-tag_length v key nonce ad sealed =
+tag_length v key nonce associated sealed =
     let first = first_mask v key in
-    let long : length (enciphered v first (tag_sum v first nonce ad sealed) 0 0) ≡ block_size v = enciphered_length v first (tag_sum v first nonce ad sealed) 0 0 (tag_sum_length v first nonce ad sealed) in
-    length-take-le (tag_size v) (enciphered v first (tag_sum v first nonce ad sealed) 0 0) (omega (arith, tag_fits v))
+    let long : length (enciphered v first (tag_sum v first nonce associated sealed) 0 0) ≡ block_size v = enciphered_length v first (tag_sum v first nonce associated sealed) 0 0 (tag_sum_length v first nonce associated sealed) in
+    length-take-le (tag_size v) (enciphered v first (tag_sum v first nonce associated sealed) 0 0) (omega (arith, tag_fits v))
 
 -- Where the sizes are lawful, the tag alone decides.
-pub sized_check : (v : Variant) (key nonce ad text tag_place : List ℕ) → LawfulSizes v key nonce ad text tag_place
-    → check_answer v key nonce ad text tag_place
-    ≡ cond (bytes_eq tag_place (tag v key nonce ad text)) (Ok (record { variant = v; key = number_from_digits 256 key; nonce = number_from_digits 256 nonce; sealed = text })) (Err WrongTag)
-sized_check v key nonce ad text tag_place l =
+pub sized_check : (v : Variant) (key nonce associated text tag_place : List ℕ) → LawfulSizes v key nonce associated text tag_place
+    → check_answer v key nonce associated text tag_place
+    ≡ cond (bytes_eq tag_place (tag v key nonce associated text)) (Ok (record { variant = v; key = number_from_digits 256 key; nonce = number_from_digits 256 nonce; sealed = text })) (Err WrongTag)
+sized_check v key nonce associated text tag_place l =
     rw (
       eq-eqb (length key) 16 l.key_length,
       eq-eqb (length nonce) 12 l.nonce_length,
-      le-leb (length ad) 65536 l.associated_length,
+      le-leb (length associated) 65536 l.associated_length,
       le-leb (length text) 65536 l.text_length,
       eq-eqb (length tag_place) (tag_size v) l.tag_length,
     )
@@ -98,12 +99,12 @@ granted_cond : (b : Bool) (t : CheckedText) (f : CipherFault) → (let r : Resul
 granted_cond true t f = refl
 granted_cond false t f = refl
 
-pub right_tag_passes : (v : Variant) (key nonce ad text tag_place : List ℕ) → LawfulSizes v key nonce ad text tag_place
-    → (granted (check_answer v key nonce ad text tag_place) ≡ true) ↔ (tag_place ≡ tag v key nonce ad text)
-right_tag_passes v key nonce ad text tag_place l =
-    let same : granted (check_answer v key nonce ad text tag_place) ≡ bytes_eq tag_place (tag v key nonce ad text) =
-    ap granted (sized_check v key nonce ad text tag_place l) ∙ granted_cond (bytes_eq tag_place (tag v key nonce ad text)) _ WrongTag in
-    let decides = bytes_eq-Decides tag_place (tag v key nonce ad text) in
+pub right_tag_passes : (v : Variant) (key nonce associated text tag_place : List ℕ) → LawfulSizes v key nonce associated text tag_place
+    → (granted (check_answer v key nonce associated text tag_place) ≡ true) ↔ (tag_place ≡ tag v key nonce associated text)
+right_tag_passes v key nonce associated text tag_place l =
+    let same : granted (check_answer v key nonce associated text tag_place) ≡ bytes_eq tag_place (tag v key nonce associated text) =
+    ap granted (sized_check v key nonce associated text tag_place l) ∙ granted_cond (bytes_eq tag_place (tag v key nonce associated text)) _ WrongTag in
+    let decides = bytes_eq-Decides tag_place (tag v key nonce associated text) in
     ((λ e. decides.0 (sym same ∙ e)), (λ e. same ∙ decides.1 e))
 
 pub opens_as_checked : (v : Variant) (key nonce sealed : List ℕ) → length key ≡ 16 → length nonce ≡ 12 → AllBelowBase 256 key → AllBelowBase 256 nonce
@@ -113,6 +114,7 @@ opens_as_checked v key nonce sealed lk ln uk un = ap₂ (λ k m. opened_text v k
 pub laws : CipherLaws
 laws =
     record {
+      answers = answer_laws;
       passes_exactly_when_the_tag_is_right = right_tag_passes;
       opening_a_sealed_text_gives_it_back = opened_sealed;
       opens_under_the_key_of_its_check = opens_as_checked;

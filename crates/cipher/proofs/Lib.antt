@@ -7,4 +7,5 @@ pub mod SumLaws
 pub mod GroupLaws
 pub mod RoomLaws
 pub mod TagLaws
+pub mod AnswerLaws
 pub mod Laws

@@ -24,48 +24,48 @@ unfolding part
 part_zero n s = ap (λ m. padded n (drop m s)) (zero-mul n)
 
 -- The sum's start: the nonce, and then what is loaded of the associated data.
-pub start_whole : (n : ℕ) (nonce ad copied loaded more rest : List ℕ) → length nonce ≡ 12 → 12 ≤ n → copied ≡ nonce
-    → loaded ≡ padded (n - 12) (closed ad) → take n (take 12 (copied ++ more) ++ (loaded ++ rest)) ≡ part n 0 (nonce ++ closed ad)
-start_whole n nonce ad copied loaded more rest ln wide ec el =
+pub start_whole : (n : ℕ) (nonce associated copied loaded more rest : List ℕ) → length nonce ≡ 12 → 12 ≤ n → copied ≡ nonce
+    → loaded ≡ padded (n - 12) (closed associated) → take n (take 12 (copied ++ more) ++ (loaded ++ rest)) ≡ part n 0 (nonce ++ closed associated)
+start_whole n nonce associated copied loaded more rest ln wide ec el =
     let lc : length copied ≡ 12 = ap length ec ∙ ln in
     let less : n - 12 ≡ n - length nonce = ap (λ m. n - m) (sym ln) in
-    let whole : length (copied ++ loaded) ≡ n = omega (arith, length-append copied loaded, lc, ap length el ∙ padded_length (n - 12) (closed ad)) in
+    let whole : length (copied ++ loaded) ≡ n = omega (arith, length-append copied loaded, lc, ap length el ∙ padded_length (n - 12) (closed associated)) in
     ap (λ t. take n (t ++ (loaded ++ rest))) (take_at copied more 12 lc) ∙ ap (take n) (sym (append_assoc copied loaded rest))
-    ∙ take_at (copied ++ loaded) rest n whole ∙ ap₂ ◌++◌ ec (el ∙ ap (λ m. padded m (closed ad)) less)
-    ∙ sym (padded_append n nonce (closed ad) (omega arith)) ∙ sym (part_zero n (nonce ++ closed ad))
+    ∙ take_at (copied ++ loaded) rest n whole ∙ ap₂ ◌++◌ ec (el ∙ ap (λ m. padded m (closed associated)) less)
+    ∙ sym (padded_append n nonce (closed associated) (omega arith)) ∙ sym (part_zero n (nonce ++ closed associated))
 
 -- Few bytes of associated data: there is no other part.
-pub associated_short : (v : Variant) (first nonce ad : List ℕ) → length nonce ≡ 12 → length ad < block_size v - 12
-    → part (block_size v) 0 (nonce ++ closed ad) ≡ associated_sum v first nonce ad
+pub associated_short : (v : Variant) (first nonce associated : List ℕ) → length nonce ≡ 12 → length associated < block_size v - 12
+    → part (block_size v) 0 (nonce ++ closed associated) ≡ associated_sum v first nonce associated
 unfolding associated_sum absorbed summed
-associated_short v first nonce ad ln h =
+associated_short v first nonce associated ln h =
     let n = block_size v in
-    let s = nonce ++ closed ad in
-    let long : length s ≡ 12 + (length ad + 1) = length-append nonce (closed ad) ∙ ap₂ ◌+◌ ln (length-append ad (1 ∷ [])) in
+    let s = nonce ++ closed associated in
+    let long : length s ≡ 12 + (length associated + 1) = length-append nonce (closed associated) ∙ ap₂ ◌+◌ ln (length-append associated (1 ∷ [])) in
     let few : parts n (length s) < 2 = div_below (length s + (n - 1)) n 2 (wide v) (omega (arith, wide v)) in
     let none : parts n (length s) - 1 ≡ 0 = omega arith in
     sym (ap (λ k. absorbed v first 0 k 1 s (part n 0 s)) none)
 
 -- What is left of nonce and closed associated data after part 0.
-rest_after_start : (n : ℕ) (nonce ad : List ℕ) → length nonce ≡ 12 → 12 ≤ n → n - 12 ≤ length ad → drop n (nonce ++ closed ad) ≡ closed (drop (n - 12) ad)
-rest_after_start n nonce ad ln h l =
+rest_after_start : (n : ℕ) (nonce associated : List ℕ) → length nonce ≡ 12 → 12 ≤ n → n - 12 ≤ length associated → drop n (nonce ++ closed associated) ≡ closed (drop (n - 12) associated)
+rest_after_start n nonce associated ln h l =
     let e : n ≡ 12 + (n - 12) = omega arith in
-    ap (λ m. drop m (nonce ++ closed ad)) e ∙ sym (drop-drop (n - 12) 12 (nonce ++ closed ad))
-    ∙ ap (drop (n - 12)) (drop_at nonce (closed ad) 12 ln) ∙ drop-append-le (n - 12) ad (1 ∷ []) l
+    ap (λ m. drop m (nonce ++ closed associated)) e ∙ sym (drop-drop (n - 12) 12 (nonce ++ closed associated))
+    ∙ ap (drop (n - 12)) (drop_at nonce (closed associated) 12 ln) ∙ drop-append-le (n - 12) associated (1 ∷ []) l
 
 -- The parts after part 0 are those of the data after it, under masks counted from 1.
-pub associated_long : (v : Variant) (first running nonce ad rest : List ℕ) → length nonce ≡ 12 → 12 ≤ block_size v → block_size v - 12 ≤ length ad
-    → running ≡ phi1 v first → rest ≡ drop (block_size v - 12) ad
-    → absorbed v running 0 (parts (block_size v) (length (closed rest))) 0 (closed rest) (part (block_size v) 0 (nonce ++ closed ad)) ≡ associated_sum v first nonce ad
+pub associated_long : (v : Variant) (first running nonce associated rest : List ℕ) → length nonce ≡ 12 → 12 ≤ block_size v → block_size v - 12 ≤ length associated
+    → running ≡ phi1 v first → rest ≡ drop (block_size v - 12) associated
+    → absorbed v running 0 (parts (block_size v) (length (closed rest))) 0 (closed rest) (part (block_size v) 0 (nonce ++ closed associated)) ≡ associated_sum v first nonce associated
 unfolding associated_sum repeated
-associated_long v first running nonce ad rest ln h l em er =
+associated_long v first running nonce associated rest ln h l em er =
     let n = block_size v in
-    let s : List ℕ = nonce ++ closed ad in
+    let s : List ℕ = nonce ++ closed associated in
     let b : List ℕ = part n 0 s in
-    let left : drop n s ≡ closed rest = rest_after_start n nonce ad ln h l ∙ ap closed (sym er) in
+    let left : drop n s ≡ closed rest = rest_after_start n nonce associated ln h l ∙ ap closed (sym er) in
     let onward : closed rest ≡ drop (1 * n) s = sym (ap (λ m. drop m s) (one-mul n) ∙ left) in
     let long : length s ≡ length (closed rest) + 1 * n =
-    omega (arith, ap length left, length-drop n s, length-append nonce (closed ad), length-append ad (1 ∷ []), one-mul n) in
+    omega (arith, ap length left, length-drop n s, length-append nonce (closed associated), length-append associated (1 ∷ []), one-mul n) in
     let count : parts n (length (closed rest)) ≡ parts n (length s) - 1 = omega (arith, parts_more n 1 (length (closed rest)) (length s) (wide v) long) in
     ap (λ k. absorbed v running 0 k 0 (closed rest) b) count ∙ ap₂ (λ y z. absorbed v y 0 (parts n (length s) - 1) 0 z b) em onward
     ∙ absorbed_on v first s b 0 1 (parts n (length s) - 1)

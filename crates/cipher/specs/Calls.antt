@@ -9,20 +9,24 @@ use Rattle.cipher.specs.Mode.{tag_size, tag, opened_text}
 use Rattle.cipher.specs.declared.faults.CipherFault.{CipherFault}
 use Rattle.cipher.specs.declared.faults.CipherFault.TheVariants.{KeyLength, NonceLength, AssociatedDataLength, TextLength, TagLength, OutputLength, WrongTag}
 
+-- A key has 16 bytes.
+abbrev pub key_check : List ℕ → Check CipherFault
+key_check key = ((length key == 16), KeyLength)
+
 -- The checks of sizes that sealing and checking share, in their order, and then others.
 abbrev pub size_checks : Variant → List ℕ → List ℕ → List ℕ → List ℕ → List ℕ → List (Check CipherFault) → List (Check CipherFault)
-size_checks v key nonce ad text tag_place others =
-    ((length key == 16), KeyLength) ∷ (((length nonce == 12), NonceLength) ∷ ((nat_le (length ad) 65536, AssociatedDataLength)
+size_checks v key nonce associated text tag_place others =
+    key_check key ∷ (((length nonce == 12), NonceLength) ∷ ((nat_le (length associated) 65536, AssociatedDataLength)
     ∷ ((nat_le (length text) 65536, TextLength) ∷ (((length tag_place == tag_size v), TagLength) ∷ others))))
 
--- A key: 16 bytes.
+-- A key alone.
 abbrev pub key_answer : List ℕ → Result (Unit {0}) CipherFault
-key_answer key = decided (((length key == 16), KeyLength) ∷ []) tt
+key_answer key = decided (key_check key ∷ []) tt
 
 -- Sealing: the sizes, and then an output of the text's length.
 abbrev pub seal_answer : Variant → List ℕ → List ℕ → List ℕ → List ℕ → List ℕ → List ℕ → Result (Unit {0}) CipherFault
-seal_answer v key nonce ad text out tag_place =
-    decided (size_checks v key nonce ad text tag_place (((length out == length text), OutputLength) ∷ [])) tt
+seal_answer v key nonce associated text out tag_place =
+    decided (size_checks v key nonce associated text tag_place (((length out == length text), OutputLength) ∷ [])) tt
 
 -- A checked text: the variant, key and nonce of its check, the last two as numbers, and the sealed text.
 pub record CheckedText : Type 0 where
@@ -33,8 +37,8 @@ pub record CheckedText : Type 0 where
 
 -- Checking: the sizes, and then the tag.
 abbrev pub check_answer : Variant → List ℕ → List ℕ → List ℕ → List ℕ → List ℕ → Result CheckedText CipherFault
-check_answer v key nonce ad text tag_place =
-    decided (size_checks v key nonce ad text tag_place ((bytes_eq tag_place (tag v key nonce ad text), WrongTag) ∷ []))
+check_answer v key nonce associated text tag_place =
+    decided (size_checks v key nonce associated text tag_place ((bytes_eq tag_place (tag v key nonce associated text), WrongTag) ∷ []))
     (record { variant = v; key = number_from_digits 256 key; nonce = number_from_digits 256 nonce; sealed = text })
 
 -- Opening a checked text: an output of its length.

@@ -42,20 +42,20 @@ absorbed v first j k i s b = summed (λ q. enciphered v first (part (block_size 
 
 -- The sum after nonce and associated data: part 0 of nonce, associated data and 01, with E (part i, i, 0) of the other parts.
 unfoldable pub associated_sum : Variant → List ℕ → List ℕ → List ℕ → List ℕ
-associated_sum v first nonce ad =
+associated_sum v first nonce associated =
     let n = block_size v in
-    let s = nonce ++ closed ad in
+    let s = nonce ++ closed associated in
     absorbed v first 0 (parts n (length s) - 1) 1 s (part n 0 s)
 
 -- The tag sum: that, with E (part i, i, 2) of all parts of the sealed text and 01.
 unfoldable pub tag_sum : Variant → List ℕ → List ℕ → List ℕ → List ℕ → List ℕ
-tag_sum v first nonce ad sealed =
-    absorbed v first 2 (parts (block_size v) (length (closed sealed))) 0 (closed sealed) (associated_sum v first nonce ad)
+tag_sum v first nonce associated sealed =
+    absorbed v first 2 (parts (block_size v) (length (closed sealed))) 0 (closed sealed) (associated_sum v first nonce associated)
 
 -- The tag, from the first mask: the first bytes of E (tag sum, 0, 0).
 unfoldable pub tag_from : Variant → List ℕ → List ℕ → List ℕ → List ℕ → List ℕ
-tag_from v first nonce ad sealed = take (tag_size v) (enciphered v first (tag_sum v first nonce ad sealed) 0 0)
+tag_from v first nonce associated sealed = take (tag_size v) (enciphered v first (tag_sum v first nonce associated sealed) 0 0)
 
 -- The tag of a sealed text.
 unfoldable pub tag : Variant → List ℕ → List ℕ → List ℕ → List ℕ → List ℕ
-tag v key nonce ad sealed = tag_from v (first_mask v key) nonce ad sealed
+tag v key nonce associated sealed = tag_from v (first_mask v key) nonce associated sealed

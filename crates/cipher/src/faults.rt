@@ -55,6 +55,7 @@ impl Fault for CipherFault {
     }
 }
 
+// By a rule of the project each layer above has such a `From`, for `?` to pass a fault of the engine up, held whole.
 impl From<EngineFault> for CipherFault {
     ghost from_gives = { λ f r. r ≡ by_engine f };
 

@@ -1,10 +1,9 @@
 // The sizes of keys, nonces, texts and tags, and the checks of them.
-ghost use Rattle.std.specs.Prelude.{◌≡◌, ◌==◌, [], ◌∷◌, length};
+ghost use Rattle.std.specs.Prelude.{◌≡◌, [], ◌∷◌};
 ghost use Rattle.fault.specs.Checks.{decided};
 ghost use Rattle.cipher.specs.Mode.{tag_size};
-ghost use Rattle.cipher.specs.Calls.{size_checks, key_answer};
+ghost use Rattle.cipher.specs.Calls.{key_check, size_checks, key_answer};
 ghost use Rattle.cipher.specs.Views.{lawful_seen, key_seen};
-ghost use Rattle.cipher.specs.declared.faults.CipherFault.TheVariants.{KeyLength};
 
 use crate::faults::CipherFault;
 use engine::Variant;
@@ -51,7 +50,7 @@ pub fn tag_bytes(variant: Variant) -> usize
 
 // A key of the right length.
 fn sized_key(key: &[u8]) -> Result<&[u8; KEY_BYTES], CipherFault>
-    ensures { key_seen result ≡ decided (((length key.now == 16), KeyLength) ∷ []) key.now }
+    ensures { key_seen result ≡ decided (key_check key.now ∷ []) key.now }
 {
     key.as_array().ok_or(CipherFault::KeyLength)
 }

@@ -61,7 +61,8 @@ impl<'e, E: Engine> Keyed<'e, E> {
         self.encipher_four(running, STREAM_TURNS, blocks)
     }
 
-    // Writes a part of at most four blocks under the key stream: four blocks of it, or one where that is enough.
+    // Writes a part of at most four blocks under the key stream: four blocks of it, or one where that is enough. Of a slice no type says its length:
+    // so the place's is asked for, here and where a whole text is streamed or opened.
     fn stream_group(
         &self,
         nonce: &Block,

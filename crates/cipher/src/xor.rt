@@ -3,14 +3,14 @@ ghost use Rattle.std.specs.Prelude.{◌≡◌};
 ghost use Rattle.std.specs.Str.{bytes_eq};
 ghost use Rattle.cipher.specs.Blocks.{xored};
 
-// Xors src into dst, as far as both go.
-pub(crate) fn xor_into(dst: &mut [u8], src: &[u8])
-    ensures { dst.new ≡ xored dst.old src.now }
+// Xors source into target, as far as both go.
+pub(crate) fn xor_into(target: &mut [u8], source: &[u8])
+    ensures { target.new ≡ xored target.old source.now }
 {
-    let n = dst.len().min(src.len());
-    // By the place, since a proof knows no byte of dst after a loop over `dst.iter_mut().zip(src)`.
-    for (k, byte) in src[0..n].iter().enumerate() {
-        dst[k] ^= *byte;
+    let n = target.len().min(source.len());
+    // By the place, since a proof knows no byte of target after a loop over `target.iter_mut().zip(source)`.
+    for (k, byte) in source[0..n].iter().enumerate() {
+        target[k] ^= *byte;
     }
 }
 

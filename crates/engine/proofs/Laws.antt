@@ -12,6 +12,7 @@ use Rattle.engine.specs.declared.variants.Variant.{Variant}
 use Rattle.engine.specs.declared.variants.Variant.TheVariants.{Dumbo, Jumbo, Delirium}
 use Rattle.engine.proofs.Numbers.{word_lt}
 use Rattle.engine.proofs.BitMoves.{moves}
+use Rattle.engine.proofs.Granted.{granted_by_lengths}
 
 pub block_length : (n : ℕ) (bs : List Bool) → length (block n bs) ≡ n
 unfolding block
@@ -46,4 +47,5 @@ laws =
       bits_move = moves;
       constants_from_register = constants_from_register;
       permutation_keeps_blocks = record { keeps_length = permutation_length; gives_bytes = permutation_byte };
+      calls_are_granted_by_length = granted_by_lengths;
     }

@@ -5,5 +5,5 @@ pub mod BitMoves
 pub mod WordBits
 pub mod Rotations
 pub mod Blocks
-pub mod Laws
 pub mod Granted
+pub mod Laws

@@ -1,9 +1,11 @@
 -- Laws of the definitions that the public documents state in other words.
-use Rattle.std.specs.Prelude.{◌≡◌, ℕ, zero, suc, ◌+◌, ◌*◌, ◌%◌, ◌<◌, Bool, false, cond, List, length, bit_xor, nat_lt, slice_index, slice_index_or}
+use Rattle.std.specs.Prelude.{◌≡◌, ℕ, zero, suc, ◌+◌, ◌*◌, ◌%◌, ◌<◌, Bool, true, false, ◌↔◌, cond, List, length, bit_xor, nat_lt, slice_index, slice_index_or}
+use Rattle.fault.specs.Checks.{granted}
 use Rattle.engine.specs.Bits.{made}
 use Rattle.engine.specs.Spongent.{place, move}
 use Rattle.engine.specs.Keccak.{constants}
-use Rattle.engine.specs.Permutation.{permutation}
+use Rattle.engine.specs.Permutation.{block_size, permutation, each}
+use Rattle.engine.specs.Calls.{one_answer, one_after, four_answer, four_after}
 use Rattle.engine.specs.declared.variants.Variant.{Variant}
 
 -- At every width that is a multiple of four, the bit layer takes bit j to the place that the document's rule gives it.
@@ -32,8 +34,22 @@ pub record PermutationKeepsBlocks : Type 0 where
   pub keeps_length : (v : Variant) (xs : List ℕ) → length (permutation v xs) ≡ length xs
   pub gives_bytes : (v : Variant) (xs : List ℕ) (k : ℕ) → slice_index (permutation v xs) k < 256
 
+-- A call is granted exactly where the place holds one block, or four, and then permutes each; a refused one leaves the place as it was.
+pub record CallsAreGrantedByLength : Type 0 where
+  pub one_is_granted_exactly_where_there_is_one_block :
+      (v : Variant) (xs : List ℕ) → (granted (one_answer v xs) ≡ true) ↔ (length xs ≡ block_size v)
+  pub four_is_granted_exactly_where_there_are_four :
+      (v : Variant) (xs : List ℕ) → (granted (four_answer v xs) ≡ true) ↔ (length xs ≡ 4 * block_size v)
+  pub one_permutes_the_block : (v : Variant) (xs : List ℕ) → granted (one_answer v xs) ≡ true → one_after v xs ≡ permutation v xs
+  pub four_permutes_each :
+      (v : Variant) (xs : List ℕ) → granted (four_answer v xs) ≡ true → four_after v xs ≡ each (permutation v) (block_size v) 4 xs
+  pub a_refused_call_leaves_the_place :
+      (v : Variant) (xs : List ℕ)
+      → (granted (one_answer v xs) ≡ false → one_after v xs ≡ xs) × (granted (four_answer v xs) ≡ false → four_after v xs ≡ xs)
+
 -- The laws together.
 pub record Laws : Type 0 where
   pub bits_move : BitsMoveToTheirPlaces
   pub constants_from_register : ConstantsComeFromTheRegister
   pub permutation_keeps_blocks : PermutationKeepsBlocks
+  pub calls_are_granted_by_length : CallsAreGrantedByLength

@@ -15,23 +15,23 @@ use Rattle.envelope.specs.declared.faults.EnvelopeFault.{EnvelopeFault}
 use Rattle.envelope.proofs.TermsLaws.{terms_length}
 
 -- Sealing under lawful sizes is granted, and leaves what is new.
-sealing_granted : (v : Variant) (key nonce ad text out place : List ℕ) → length key ≡ 16 → length nonce ≡ 12 → length ad ≤ 64 → length text ≡ 64 → length out ≡ 64 → length place ≡ tag_size v
-    → seal_answer v key nonce ad text out place ≡ Ok tt
-sealing_granted v key nonce ad text out place lk ln la lt lo lp =
+sealing_granted : (v : Variant) (key nonce associated text out place : List ℕ) → length key ≡ 16 → length nonce ≡ 12 → length associated ≤ 64 → length text ≡ 64 → length out ≡ 64 → length place ≡ tag_size v
+    → seal_answer v key nonce associated text out place ≡ Ok tt
+sealing_granted v key nonce associated text out place lk ln la lt lo lp =
     rw (
       eq-eqb (length key) 16 lk,
       eq-eqb (length nonce) 12 ln,
-      le-leb (length ad) 65536 (omega arith),
+      le-leb (length associated) 65536 (omega arith),
       le-leb (length text) 65536 (omega arith),
       eq-eqb (length place) (tag_size v) lp,
       eq-eqb (length out) (length text) (lo ∙ sym lt),
     )
 
-pub sealing_leaves : (v : Variant) (key nonce ad text out place x new old : List ℕ) (r : Result (Unit {0}) CipherFault)
-    → r ≡ seal_answer v key nonce ad text out place → x ≡ left r new old
-    → length key ≡ 16 → length nonce ≡ 12 → length ad ≤ 64 → length text ≡ 64 → length out ≡ 64 → length place ≡ tag_size v → x ≡ new
-sealing_leaves v key nonce ad text out place x new old r answer e lk ln la lt lo lp =
-    e ∙ ap (λ q. left q new old) (answer ∙ sealing_granted v key nonce ad text out place lk ln la lt lo lp)
+pub sealing_leaves : (v : Variant) (key nonce associated text out place x new old : List ℕ) (r : Result (Unit {0}) CipherFault)
+    → r ≡ seal_answer v key nonce associated text out place → x ≡ left r new old
+    → length key ≡ 16 → length nonce ≡ 12 → length associated ≤ 64 → length text ≡ 64 → length out ≡ 64 → length place ≡ tag_size v → x ≡ new
+sealing_leaves v key nonce associated text out place x new old r answer e lk ln la lt lo lp =
+    e ∙ ap (λ q. left q new old) (answer ∙ sealing_granted v key nonce associated text out place lk ln la lt lo lp)
 
 pub enveloped_parts : (v : Variant) (key terms h l sealed tg place : List ℕ) → place ≡ h ++ (sealed ++ tg) → sealed ≡ sealed_text v key h l → tg ≡ tag v key h terms (sealed_text v key h l)
     → place ≡ enveloped v key terms h l

@@ -3,7 +3,7 @@ use Rattle.std.proofs.Common.{◌≡◌, ℕ, zero, suc, ◌+◌, ◌-◌, ◌^�
 use Rattle.std.specs.Int.Digits.{number_from_digits, AllBelowBase}
 use Rattle.std.proofs.ByRecursion.{All-take, All-drop}
 use Rattle.std.proofs.lemmas.Bool.{cases_Bool}
-use Rattle.std.proofs.lemmas.List.{take_at, take-take, drop_at, drop-drop, drop-take, take-append-drop, get_or_at, length-append, length-replicate, length-take-le, length-drop, append_assoc}
+use Rattle.std.proofs.lemmas.List.{take_at, take-take, drop_at, drop-drop, drop-take, take-append-drop, drop_more, get_or_at, length-append, length-replicate, length-take-le, length-drop, append_assoc}
 use Rattle.fault.specs.Checks.{granted}
 use Rattle.big_endian.specs.Numbers.{bytes_of}
 use Rattle.big_endian.proofs.Laws.{bytes_back, bytes_of_length}
@@ -14,7 +14,7 @@ use Rattle.cipher.proofs.Laws.{sealed_length, tag_length, opened_sealed, right_t
 use Rattle.envelope.specs.Letters.{letter, most_cents, amount_field, note_length, note_field, after_note, only_zeros, lawful, amount_offered}
 use Rattle.envelope.specs.Heads.{head, lot_of, bidder_of, sequence_of}
 use Rattle.envelope.specs.Envelopes.{envelope_size, head_part, sealed_part, tag_part, enveloped, bid, right_tag, letter_sealed_in}
-use Rattle.envelope.proofs.LetterLaws.{lawful_rest, lawful_amount, offered, offered_none}
+use Rattle.envelope.proofs.LetterLaws.{lawful_rest, lawful_length, lawful_amount, lawful_note, lawful_after_note, zeros_replicated, offered, offered_none}
 use Rattle.envelope.proofs.HeadLaws.{number_back, head_length, lot_back, bidder_back, sequence_back}
 
 -- Letters.
@@ -70,6 +70,31 @@ letter_lawful amount note ha hn =
     let n = letter_note_length amount note in
     lawful_rest (letter amount note) (letter_length amount note hn) (omega arith) (omega arith)
     ∙ ap only_zeros (letter_after_note amount note) ∙ all_zero_zeros (55 - length note)
+
+pub note_field_length : (xs : List ℕ) → lawful xs ≡ true → length (note_field xs) ≡ note_length xs
+note_field_length xs h =
+    let l = lawful_length xs h in
+    let n = lawful_note xs h in
+    length-take-le (note_length xs) (drop 9 xs) (omega (arith, length-drop 9 xs, l, n))
+
+-- A lawful letter is the letter of its amount and its note.
+pub lawful_is_letter : (xs : List ℕ) → AllBelowBase 256 xs → lawful xs ≡ true → xs ≡ letter (amount_field xs) (note_field xs)
+unfolding letter
+lawful_is_letter xs u h =
+    let l = lawful_length xs h in
+    let n = lawful_note xs h in
+    let ln = note_field_length xs h in
+    let eight : bytes_of 8 (amount_field xs) ≡ take 8 xs = bytes_back 8 (take 8 xs) (length-take-le 8 xs (omega (arith, l))) (All-take (λ d. d < 256) 8 xs u) in
+    let rest : after_note xs ≡ replicate (55 - length (note_field xs)) 0 =
+    zeros_replicated (after_note xs) (lawful_after_note xs h)
+    ∙ ap (λ k. replicate k 0) (length-drop (9 + note_length xs) xs ∙ omega (arith, l, ln, n)) in
+    let tail : drop 9 xs ≡ note_field xs ++ replicate (55 - length (note_field xs)) 0 =
+    sym (take-append-drop (note_length xs) (drop 9 xs)) ∙ ap (λ z. note_field xs ++ z) (drop-drop (note_length xs) 9 xs ∙ rest) in
+    sym (take-append-drop 8 xs)
+    ∙ ap₂ ◌++◌ (sym eight) (drop_more xs 8 0 (omega (arith, l)) ∙ ap₂ ◌∷◌ (sym ln) tail)
+
+pub note_bytes : (xs : List ℕ) → AllBelowBase 256 xs → AllBelowBase 256 (note_field xs)
+note_bytes xs u = All-take (λ d. d < 256) (note_length xs) (drop 9 xs) (All-drop (λ d. d < 256) 9 xs u)
 
 pub amount_in_letter : (amount : ℕ) (note : List ℕ) → amount ≤ most_cents → length note ≤ 55 → amount_offered (letter amount note) ≡ amount
 amount_in_letter amount note ha hn = offered (letter amount note) (letter_lawful amount note ha hn) ∙ letter_amount amount note ha

@@ -1,5 +1,5 @@
 -- Letters: how one is written, and how it is read.
-use Rattle.std.proofs.Common.{◌≡◌, ℕ, ◌+◌, ◌-◌, ◌<◌, ◌≤◌, true, false, ◌&&◌, leb, List, [], ◌∷◌, ◌++◌, length, get_or, take, drop, set, replicate, w64, ◌==◌, refl, sym, ap, ◌∙◌, arith}
+use Rattle.std.proofs.Common.{◌≡◌, ℕ, ◌+◌, ◌-◌, ◌<◌, ◌≤◌, true, false, ◌&&◌, leb, List, [], ◌∷◌, ◌++◌, length, get_or, take, drop, set, replicate, w64, ◌==◌, refl, sym, ap, ap₂, ◌∙◌, arith}
 use borrow.Rule.Slice.PartMut.{put_mid, post_of}
 use Rattle.std.specs.Int.{to_be_bytes, from_be_bytes}
 use Rattle.std.specs.List.{list_all}
@@ -92,6 +92,24 @@ lawful_length xs h = eqb-true (length xs) 64 (and_parts _ _ h).0
 pub lawful_amount : (xs : List ℕ) → lawful xs ≡ true → amount_field xs ≤ most_cents
 unfolding lawful
 lawful_amount xs h = leb-true (amount_field xs) most_cents (and_parts _ _ (and_parts _ _ h).1).0
+
+pub lawful_note : (xs : List ℕ) → lawful xs ≡ true → note_length xs ≤ 55
+unfolding lawful
+lawful_note xs h = leb-true (note_length xs) 55 (and_parts _ _ (and_parts _ _ (and_parts _ _ h).1).1).0
+
+pub lawful_after_note : (xs : List ℕ) → lawful xs ≡ true → only_zeros (after_note xs) ≡ true
+unfolding lawful
+lawful_after_note xs h =
+    let zeros = only_zeros (after_note xs) in
+    let rest = leb (note_length xs) 55 && zeros in
+    (and_parts (leb (note_length xs) 55) zeros (and_parts (leb (amount_field xs) most_cents) rest (and_parts (length xs == 64) (leb (amount_field xs) most_cents && rest) h).1).1).1
+
+-- Bytes that are all zero.
+pub zeros_replicated : (xs : List ℕ) → only_zeros xs ≡ true → xs ≡ replicate (length xs) 0
+zeros_replicated [] h = refl
+zeros_replicated (x ∷ xs) h =
+    let p = and_parts (x == 0) (only_zeros xs) h in
+    ap₂ ◌∷◌ (eqb-true x 0 p.0) (zeros_replicated xs p.1)
 
 pub offered : (xs : List ℕ) → lawful xs ≡ true → amount_offered xs ≡ amount_field xs
 unfolding amount_offered

@@ -1,17 +1,19 @@
 -- Pens: each head has a higher sequence than those before it.
-use Rattle.std.proofs.Common.{◌≡◌, ℕ, zero, suc, ◌+◌, ◌<◌, ◌≤◌, Bool, true, false, cond, ltb, List, [], ◌++◌, map, length, get_or, Ok, Err, Result, sym, refl, ap, ◌∙◌, subst, arith}
+use Rattle.std.proofs.Common.{◌≡◌, ℕ, zero, suc, ◌+◌, ◌^◌, ◌<◌, ◌≤◌, Bool, true, false, cond, leb, ltb, ◌↔◌, List, [], ◌∷◌, ◌++◌, map, length, get_or, Ok, Err, Result, sym, refl, ap, ◌∙◌, subst, arith}
 use Rattle.std.specs.List.{AllByRecursion}
 use Rattle.std.proofs.ByRecursion.{All-weaker}
-use Rattle.std.proofs.lemmas.Bool.{ltb-true}
+use Rattle.std.proofs.lemmas.Bool.{leb-true, le-leb, lt-leb, ltb-true, lt-ltb, le-ltb}
+use Rattle.fault.specs.Checks.{granted}
+use Rattle.fault.proofs.Checks.{granted_exactly_where_passed}
 use Rattle.envelope.specs.Terms.{bytes_of_terms}
 use Rattle.envelope.specs.Heads.{sequence_of}
-use Rattle.envelope.specs.Pens.{last_sequence, next_head, take_answer}
+use Rattle.envelope.specs.Pens.{last_sequence, next_head, pen_answer, take_answer}
 use Rattle.envelope.specs.Takings.{Takings, none, more, heads_given, nonce, NoTwoEqual}
 use Rattle.envelope.specs.Theorems.{LawsOfPens}
 use Rattle.envelope.specs.declared.heads.Head.{Head}
 use Rattle.envelope.specs.declared.pens.Pen.{Pen}
 use Rattle.envelope.specs.declared.faults.EnvelopeFault.{EnvelopeFault}
-use Rattle.envelope.specs.declared.faults.EnvelopeFault.TheVariants.{HeadsSpent}
+use Rattle.envelope.specs.declared.faults.EnvelopeFault.TheVariants.{TermsLength, HeadsSpent}
 use Rattle.envelope.proofs.HeadLaws.{sequence_back}
 
 -- A granted taking gives the next head.
@@ -77,9 +79,27 @@ belong (more {p = p} {q = q} {bidder = b} {a = Ok h} {rest = answers} t rest) =
     )
 belong (more {p = p} {q = q} {a = Err f} {rest = answers} t rest) = subst (λ x. AllByRecursion (Of x) (heads_given answers)) t.pen_after (belong rest)
 
+-- When making a pen and taking a head are granted.
+pen_granted : (lot : ℕ) (terms : List ℕ) → ((granted (pen_answer lot terms) ≡ true) ↔ (length terms ≤ 64)) × (64 < length terms → pen_answer lot terms ≡ Err TermsLength)
+pen_granted lot terms =
+    let by_checks = granted_exactly_where_passed ((leb (length terms) 64, TermsLength) ∷ []) (record { lot = lot; terms = terms; given = 0 }) in
+    (((λ e. leb-true (length terms) 64 (by_checks.0 e).0), (λ l. by_checks.1 (le-leb (length terms) 64 l, tt))), (λ h. rw (lt-leb (length terms) 64 h)))
+
+taking_granted : (p : Pen) (bidder : ℕ) → ((granted (take_answer p bidder) ≡ true) ↔ (p.given + 1 < 2 ^ 32)) × (2 ^ 32 ≤ p.given + 1 → take_answer p bidder ≡ Err HeadsSpent)
+taking_granted p bidder =
+    let by_checks = granted_exactly_where_passed ((ltb p.given last_sequence, HeadsSpent) ∷ []) (next_head p bidder) in (
+      (
+        (λ e. let l = ltb-true p.given last_sequence (by_checks.0 e).0 in omega arith),
+        (λ l. by_checks.1 (lt-ltb p.given last_sequence (omega arith), tt)),
+      ),
+      (λ h. rw (le-ltb p.given last_sequence (omega arith))),
+    )
+
 pub pen_laws : LawsOfPens
 pen_laws =
     record {
+      a_pen_is_granted_for_terms_of_at_most_64_bytes = pen_granted;
+      taking_is_granted_until_the_last_sequence = taking_granted;
       no_two_heads_of_one_pen_are_equal = λ lot terms p q answers fresh run. differ run;
       sequences_count_from_one = λ lot terms p q answers fresh run k l.
           (let z : p.given ≡ 0 = ap (λ x. x.given) fresh in counts run k l ∙ omega arith);

@@ -20,7 +20,7 @@ pub fn envelope_bytes(variant: Variant) -> usize
 }
 
 // Seals a bid: writes the envelope of a head, an amount and a note under the head's terms. The head is used up, granted or refused. After a
-// refusal the place is as it was.
+// refusal the place is as it was. Amount and note are lent one by one, here and below: a struct of both would be made for each call alone.
 #[tactic(auto, using(crate::proofs::TermsLaws::terms_short))]
 pub fn seal_bid<E: Engine>(
     engine: &E,
@@ -72,7 +72,7 @@ fn check_bid(
 }
 
 // Writes the envelope of a head and a letter under a key and terms, all of lawful sizes. The letter is sealed where it stands in the
-// envelope, with its tag behind it.
+// envelope, with its tag behind it. `granted`: a fault of the cipher is passed up by `?`, though none comes once the sizes are checked.
 fn put_envelope<E: Engine>(
     engine: &E,
     key: &[u8],

@@ -31,7 +31,7 @@ impl Terms {
         Terms::held_in(&held, bytes.len() as u8)
     }
 
-    // The terms that the first of these bytes write, `len` of them.
+    // The terms that the first of these bytes write, `len` of them. The parts of the place are slices, which `number_of` takes as they are.
     fn held_in(held: &[u8; MOST_TERMS_BYTES], len: u8) -> Terms
         requires { len ≤ 64 }
         ensures { bytes_of_terms result ≡ take len held.now }

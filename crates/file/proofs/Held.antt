@@ -3,22 +3,23 @@ use Rattle.std.proofs.Common.{◌≡◌, List, [], ◌∷◌, ◌++◌, map, Ok,
 use Rattle.std.proofs.lemmas.List.{append_assoc, append-nil}
 use Rattle.fault.specs.Checks.{decided}
 use Rattle.engine.specs.declared.variants.Variant.{Variant}
+use Rattle.room.proofs.Histories.{runs_on}
 use Rattle.room.specs.Calls.{Call, Answer, Lodging, Closing, Met, answer_to, room_after, page_of_room}
 use Rattle.room.specs.Making.{Made, making_checks, new_room}
 use Rattle.room.specs.Rooms.{contents}
-use Rattle.room.specs.Runs.{met, none, more, History, Prints, calls_of}
+use Rattle.room.specs.Runs.{met, none, more, History, calls_of}
 use Rattle.room.specs.Sales.{Bytes, Sale}
 use Rattle.room.specs.declared.faults.RoomFault.{RoomFault}
 use Rattle.room.specs.declared.slots.Phase.TheVariants.{Open}
 use Rattle.room.specs.declared.state.RoomState.{RoomState}
 use Rattle.file.specs.Contents.{Contents, Sent}
-use Rattle.file.specs.Holding.{Held}
+use Rattle.file.specs.Holding.{HeldIn, WasHeld}
 use Rattle.file.specs.Report.{room_of, answer_lines, lodged_all, page_in, accepted_report}
 use Rattle.file.specs.Stepwise.{lodging_of, GoesThrough}
 use Rattle.file.specs.Theorems.{KeepsLimits}
 use Rattle.file.proofs.Pages.{lodged_phase, held_prints}
 use Rattle.file.proofs.Registers.{is_lawful}
-use Rattle.file.proofs.Through.{runs_on, calls_on}
+use Rattle.file.proofs.Through.{calls_on}
 
 -- what a call does, and calls one after the other, above an engine of the same variant
 pub met_by : {v w : Variant} {r t : RoomState} {c : Call} {a : Answer} → w ≡ v → Met w r c a t → Met v r c a t
@@ -60,7 +61,7 @@ module _ (v : Variant) (s : Sale) (es : List Sent) (of : v ≡ s.variant) (befor
     page_is : page_of_room (contents v room) ≡ page_in whole
     page_is = ap page_of_room (k.leaves ∙ ap (λ r. room_after r Closing) lodged_is)
 
-    abbrev pub history : History
+    abbrev history : History
     history = record {
       variant = v;
       lot = s.lot;
@@ -74,15 +75,15 @@ module _ (v : Variant) (s : Sale) (es : List Sent) (of : v ≡ s.variant) (befor
       runs = runs_on g.runs (more k none);
     }
 
-    pub is_held : Held whole history
+    is_held : HeldIn whole history
     is_held = record {
       made_of = ap (λ w. record { variant = w; lot = s.lot; terms = s.terms; register = s.register }) of;
       met = calls_on g.meetings (met Closing (Ok 0) ∷ [])
           ∙ ap (λ cs. cs ++ (Closing ∷ [])) (sym (append-nil (calls_of g.meetings)) ∙ g.lodges ∙ each_lodged es);
     }
 
-    pub prints_page : Prints history (page_in whole)
-    prints_page = (held_prints whole history is_held (page_in whole)).1 refl
+    pub was_held : WasHeld whole
+    was_held = (history, is_held, (held_prints whole history is_held (page_in whole)).1 refl)
 
     pub all_printed : (out'' out''' : Bytes) → out ≡ codes "line,answer\n" → out'' ≡ out' ++ codes "\n" → out''' ≡ out'' ++ page_of_room (contents v room)
         → out''' ≡ accepted_report whole

@@ -9,14 +9,14 @@ use Rattle.list.specs.declared.faults.ListFault.{ListFault}
 use Rattle.list.specs.declared.faults.ListFault.TheVariants.{EqualEntry, Full}
 use Rattle.list.proofs.Laws.{length_inserted, rising_inserted, rising_empty}
 use Rattle.room.specs.declared.register.RegisterEntry.{RegisterEntry}
-use Rattle.room.specs.Sales.{Sale}
+use Rattle.room.specs.Sales.{Bytes, Sale}
 use Rattle.file.specs.Contents.{with_lot, with_register, and_then, enrolled, gathered, said_in, sale_in, nothing}
 use Rattle.file.specs.Fields.{holds_comma, field, behind}
 use Rattle.file.specs.Form.{Items, end, broken, item, lot_item, bidder_item, envelope_item, items, Verdict, refused, passed, said, line_must_say, lot_values, variant_of, bidder_values, is_key, judged, after_verdict, at_the_end}
 use Rattle.file.specs.Numbers.{number_of}
 use Rattle.file.specs.Theorems.{AcceptedFilesKeepLimits}
 use Rattle.file.specs.Hexadecimal.{written_bytes}
-use Rattle.file.specs.Lines.{Bytes, Lines, finished, torn, line, lines}
+use Rattle.file.specs.Lines.{Lines, finished, torn, line, lines}
 use Rattle.file.specs.declared.faults.FileFault.{FileFault}
 use Rattle.file.specs.declared.faults.FileFault.TheVariants.{TooLong, Form, TermsLength}
 use Rattle.file.specs.declared.line.Section.{Section}

@@ -6,11 +6,12 @@ use Rattle.engine.specs.declared.variants.Variant.{Variant}
 use Rattle.room.specs.Calls.{Call, Lodging, Closing, Answer, is_open, answer_to, room_after, holding, closed, page_of_room}
 use Rattle.room.specs.Rooms.{Holding, Contents as Room, sale_of, kept_for, contents}
 use Rattle.room.specs.Runs.{Meeting, Runs, none, more, calls_of, lodged, History, IsClosed, Prints}
-use Rattle.room.specs.Sales.{Sale, Among, OneToAHead}
+use Rattle.room.specs.Sales.{Bytes, Sale, Among, OneToAHead}
 use Rattle.room.specs.declared.faults.RoomFault.{RoomFault}
 use Rattle.room.specs.declared.faults.RoomFault.TheVariants.{Closed}
 use Rattle.room.specs.declared.slots.Phase.TheVariants.{Open as PhaseOpen, Closed as PhaseClosed}
 use Rattle.room.specs.declared.state.RoomState.{RoomState}
+use Rattle.room.proofs.Registers.{rises_of}
 use Rattle.room.proofs.Amounts.{Left}
 use Rattle.room.proofs.Chains.{stage_of, kept_staged, page_is, same_after}
 use Rattle.room.proofs.Histories.{entries_back, nothing_kept, its_page, some_page, only_page, later_page}
@@ -19,13 +20,11 @@ use Rattle.room.proofs.Law.{Kept, Taking, kept_in, nothing, verdict, settled, pa
 use Rattle.room.proofs.Order.{same_held}
 use Rattle.room.proofs.Pages.{RisesFrom, rises}
 use Rattle.file.specs.Contents.{Sent, Contents, with_envelopes, envelopes_in, said_in, sale_in, contents_in}
-use Rattle.file.specs.Holding.{envelopes_of, calls_in, Held}
-use Rattle.file.specs.Lines.{Bytes}
+use Rattle.file.specs.Holding.{envelopes_of, calls_in, HeldIn}
 use Rattle.file.specs.Report.{room_of, lodged_all, page_in}
 use Rattle.file.specs.Theorems.{LawsOfPages}
 use Rattle.file.specs.declared.faults.FileFault.{FileFault}
 use Rattle.file.proofs.Lawful.{accepted_keeps_limits}
-use Rattle.file.proofs.Registers.{rises_of}
 
 -- The room that calls leave, each upon what the earlier ones left.
 abbrev pub after_all : Room → List Call → Room
@@ -58,7 +57,7 @@ calls_leave r [] = refl
 calls_leave r (e ∷ es) = calls_leave (room_after r (Lodging e.envelope)) es
 
 -- A room in which the sale of a file was held is that room.
-pub held_leaves : (c : Contents) (x : History) → Held c x → contents x.variant x.room ≡ last_room c
+pub held_leaves : (c : Contents) (x : History) → HeldIn c x → contents x.variant x.room ≡ last_room c
 held_leaves c x h =
     runs_leave x.variant x.runs ∙ ap₂ after_all (x.made.leaves x.variant ∙ ap room_of h.made_of) h.met ∙ calls_leave (room_of c.sale) c.envelopes
 
@@ -75,11 +74,11 @@ lodged_phase r (e ∷ es) = lodged_phase (room_after r (Lodging e.envelope)) es 
 closes : (r : Room) → r.phase ≡ PhaseOpen → (room_after r Closing).phase ≡ PhaseClosed
 closes r is = ap (λ p. (left (decided {X = ℕ} {F = RoomFault} ((is_open p, Closed) ∷ []) 0) (closed r) r).phase) is
 
-pub held_closed : (c : Contents) (x : History) → Held c x → IsClosed x
+pub held_closed : (c : Contents) (x : History) → HeldIn c x → IsClosed x
 held_closed c x h = ap (λ r. r.phase) (held_leaves c x h) ∙ closes _ (lodged_phase (room_of c.sale) c.envelopes)
 
 -- And it prints the page of the file and no other.
-pub held_prints : (c : Contents) (x : History) → Held c x → (p : Bytes) → Prints x p ↔ (p ≡ page_in c)
+pub held_prints : (c : Contents) (x : History) → HeldIn c x → (p : Bytes) → Prints x p ↔ (p ≡ page_in c)
 held_prints c x h p =
     let is_closed = held_closed c x h in
     let same : its_page x is_closed ≡ page_in c = sym (later_page x is_closed [] x.room none) ∙ ap page_of_room (held_leaves c x h) in

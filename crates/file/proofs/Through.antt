@@ -1,5 +1,6 @@
 -- Lines of a file gone through one after the other, their envelopes lodged.
 use Rattle.std.proofs.Common.{◌≡◌, ℕ, List, [], ◌∷◌, ◌++◌, map, Some, None, Ok, Err, sym, refl, ap, ◌∙◌, subst, Bor}
+use Rattle.room.proofs.Histories.{runs_on}
 use Rattle.room.specs.declared.state.RoomState.{RoomState}
 use Rattle.file.specs.Read.{first_of, rest_of}
 use Rattle.file.proofs.Sound.{first_then, first_broken, first_ended}
@@ -7,23 +8,19 @@ use Rattle.file.specs.declared.faults.FileFault.{FileFault}
 use Rattle.std.proofs.lemmas.List.{append_assoc}
 use Rattle.engine.specs.declared.variants.Variant.{Variant}
 use Rattle.room.specs.Rooms.{contents}
-use Rattle.room.specs.Calls.{Lodging, Met, answer_to, room_after}
+use Rattle.room.specs.Calls.{Lodging, answer_to, room_after}
 use Rattle.room.specs.Runs.{Meeting, met, Runs, none, more, calls_of}
-use Rattle.file.specs.Lines.{Bytes}
+use Rattle.room.specs.Sales.{Bytes}
 use Rattle.file.specs.Contents.{Sent, envelopes_in}
 use Rattle.file.specs.Form.{Item, Items, item}
 use Rattle.file.specs.Hexadecimal.{written_bytes}
 use Rattle.file.specs.Report.{two_values, answer_number, answer_lines, lodged_all}
 use Rattle.file.specs.Said.{item_of}
-use Rattle.file.specs.Stepwise.{lodging_of, GoesThrough}
+use Rattle.file.specs.Stepwise.{lodging_of, LodgesOne, GoesThrough}
 use Rattle.file.specs.declared.line.Line.{Line}
 use Rattle.file.specs.declared.line.Line.TheVariants.{Lot, Bidder, Envelope}
 
--- runs one after the other
-pub runs_on : {v : Variant} {r s t : RoomState} {ms ns : List Meeting} → Runs v r ms s → Runs v s ns t → Runs v r (ms ++ ns) t
-runs_on none b = b
-runs_on (more m a) b = more m (runs_on a b)
-
+-- calls one after the other
 pub calls_on : (ms ns : List Meeting) → calls_of (ms ++ ns) ≡ calls_of ms ++ calls_of ns
 calls_on [] ns = refl
 calls_on (met c a ∷ ms) ns = ap (λ cs. c ∷ cs) (calls_on ms ns)
@@ -41,21 +38,19 @@ module _ (v : Variant) where
   sent n digits = record { at = n; envelope = written_bytes digits }
 
   pub through_envelope : (out out' : Bytes) (s s' : RoomState) (l : Line) (n : ℕ) (d : Bor (List ℕ)) → l ≡ Envelope n d
-      → out' ≡ out ++ two_values n (answer_number (answer_to (contents v s) (Lodging (written_bytes d.now))))
-      → Met v s (Lodging (written_bytes d.now)) (answer_to (contents v s) (Lodging (written_bytes d.now))) s' → (is : Items)
-      → GoesThrough v out s (envelopes_in (item (item_of l) is)) out' s' (envelopes_in is)
+      → LodgesOne v out s (sent n d.now) out' s' → (is : Items) → GoesThrough v out s (envelopes_in (item (item_of l) is)) out' s' (envelopes_in is)
   unfolding envelopes_in answer_lines lodged_all
-  through_envelope out out' s s' l n d e o m is =
+  through_envelope out out' s s' l n d e one is =
       let q : envelopes_in (item (item_of l) is) ≡ sent n d.now ∷ envelopes_in is = ap (λ z. envelopes_in (item (item_of z) is)) e in
       let printed = two_values n (answer_number (answer_to (contents v s) (Lodging (written_bytes d.now)))) in
       record {
-        prints = ap (λ z. z ++ answer_lines (contents v s') (envelopes_in is)) o
-            ∙ ap (λ z. (out ++ printed) ++ answer_lines z (envelopes_in is)) m.leaves
+        prints = ap (λ z. z ++ answer_lines (contents v s') (envelopes_in is)) one.prints
+            ∙ ap (λ z. (out ++ printed) ++ answer_lines z (envelopes_in is)) one.meets.leaves
             ∙ append_assoc out printed (answer_lines (room_after (contents v s) (Lodging (written_bytes d.now))) (envelopes_in is))
             ∙ ap (λ es. out ++ answer_lines (contents v s) es) (sym q);
-        leaves = ap (λ z. lodged_all z (envelopes_in is)) m.leaves ∙ ap (lodged_all (contents v s)) (sym q);
+        leaves = ap (λ z. lodged_all z (envelopes_in is)) one.meets.leaves ∙ ap (lodged_all (contents v s)) (sym q);
         meetings = met (Lodging (written_bytes d.now)) (answer_to (contents v s) (Lodging (written_bytes d.now))) ∷ [];
-        runs = more m none;
+        runs = more one.meets none;
         lodges = ap (map lodging_of) (sym q);
       }
 

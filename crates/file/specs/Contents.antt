@@ -6,13 +6,13 @@ use Rattle.list.specs.Insertion.{has_equal, inserted}
 use Rattle.list.specs.Order.{by_key}
 use Rattle.list.specs.declared.faults.ListFault.{ListFault}
 use Rattle.list.specs.declared.faults.ListFault.TheVariants.{EqualEntry, Full}
-use Rattle.file.specs.Lines.{Bytes, lines}
+use Rattle.file.specs.Lines.{lines}
 use Rattle.file.specs.Hexadecimal.{written_bytes}
 use Rattle.file.specs.Form.{Items, end, broken, item, lot_item, bidder_item, envelope_item, items}
 use Rattle.file.specs.declared.faults.FileFault.{FileFault}
 use Rattle.file.specs.declared.faults.FileFault.TheVariants.{TooLong, List as ByList}
 use Rattle.file.specs.declared.line.Section.TheVariants.{LotNames}
-use Rattle.room.specs.Sales.{Sale}
+use Rattle.room.specs.Sales.{Bytes, Sale}
 use Rattle.room.specs.declared.register.RegisterEntry.{RegisterEntry}
 
 -- An envelope, and the line that it stands in.
@@ -31,17 +31,19 @@ enrolled e register =
     cond (has_equal (by_key (λ x. x.bidder)) e register) (Err EqualEntry)
     (cond (nat_lt (length register) 64) (Ok (inserted (by_key (λ x. x.bidder)) e register)) (Err Full))
 
--- The sale that a file's lines say, gathered line by line: s is what was gathered so far.
+-- A sale with other values of the lot, and with another register.
 abbrev pub with_lot : ℕ → Variant → Bytes → Sale → Sale
 with_lot lot variant terms s = record { variant = variant; lot = lot; terms = terms; register = s.register }
 
 abbrev pub with_register : List RegisterEntry → Sale → Sale
 with_register register s = record { variant = s.variant; lot = s.lot; terms = s.terms; register = register }
 
+-- What comes of line n's bidder: the register goes on, or the list's fault refuses the line.
 abbrev pub and_then : ℕ → Result (List RegisterEntry) ListFault → (List RegisterEntry → Result Sale FileFault) → Result Sale FileFault
 and_then n (Ok register) go_on = go_on register
 and_then n (Err f) go_on = Err (ByList n f)
 
+-- The sale that a file's lines say, gathered line by line: s is what was gathered so far.
 unfoldable pub gathered : Sale → Items → Result Sale FileFault
 gathered s end = Ok s
 gathered s (broken f) = Err f
@@ -70,6 +72,7 @@ nothing = record { variant = Dumbo; lot = 0; terms = []; register = [] }
 abbrev pub sale_in : Bytes → Result Sale FileFault
 sale_in file = gathered nothing (said_in file)
 
+-- A sale with the file's envelopes.
 abbrev pub with_envelopes : List Sent → Result Sale FileFault → Result Contents FileFault
 with_envelopes es (Ok s) = Ok (record { sale = s; envelopes = es })
 with_envelopes es (Err f) = Err f
@@ -78,11 +81,12 @@ with_envelopes es (Err f) = Err f
 abbrev pub contents_in : Bytes → Result Contents FileFault
 contents_in file = with_envelopes (envelopes_in (said_in file)) (sale_in file)
 
--- The bidders enrolled up to the file's end, or up to the line that is refused: xs are those so far.
+-- Enrolling goes on with the new register, or stops at the bidders xs so far.
 abbrev pub or_stop : Result (List RegisterEntry) ListFault → List RegisterEntry → (List RegisterEntry → List RegisterEntry) → List RegisterEntry
 or_stop (Ok register) xs go_on = go_on register
 or_stop (Err f) xs go_on = xs
 
+-- The bidders enrolled up to the file's end, or up to the line that is refused: xs are those so far.
 unfoldable pub enrolled_in : List RegisterEntry → Items → List RegisterEntry
 enrolled_in xs end = xs
 enrolled_in xs (broken f) = xs

@@ -4,13 +4,13 @@ use Rattle.fault.specs.declared.Layer.{Layer}
 use Rattle.fault.specs.declared.Layer.TheVariants.{File}
 use Rattle.fault.specs.declared.Place.{Place}
 use Rattle.fault.specs.declared.Place.TheVariants.{Line}
-use Rattle.list.specs.Faults.{number_of as list_number}
+use Rattle.list.specs.Faults.{fault_number as list_number}
 use Rattle.room.specs.Faults.{fault_number as room_number}
 use Rattle.file.specs.declared.faults.FileFault.{FileFault}
 use Rattle.file.specs.declared.faults.FileFault.TheVariants.{TooLong, Form, TermsLength, List, Room}
 
 -- 23 for a file that is too long, 22 for a line that breaks the form, 15 for terms that are too long, and what the list says of a bidder. The room
--- refuses no file: its faults have a case for the sake of whoever calls it.
+-- refuses no file: its faults have a case so that `?` can pass them up.
 abbrev pub fault_number : FileFault → ℕ
 fault_number TooLong = 23
 fault_number (Form at) = 22

@@ -2,7 +2,7 @@
 use Rattle.std.specs.Prelude.{◌≡◌, ℕ, ◌+◌, Bool, true, false, not, length, take, drop, Some, None, Option, ◌==◌, nat_lt}
 use Rattle.std.specs.List.{prefix_len}
 use Rattle.std.specs.Borrow.{Bor}
-use Rattle.file.specs.Lines.{Bytes}
+use Rattle.room.specs.Sales.{Bytes}
 
 -- How many bytes stand before the first b: all of them where there is none.
 unfoldable pub place_of : ℕ → Bytes → ℕ

@@ -3,7 +3,8 @@ use Rattle.std.specs.Prelude.{ℕ, ◌+◌, ◌%◌, Bool, true, false, cond, �
 use Rattle.std.specs.Str.{bytes_eq}
 use Rattle.engine.specs.declared.variants.Variant.{Variant}
 use Rattle.engine.specs.declared.variants.Variant.TheVariants.{Dumbo, Jumbo, Delirium}
-use Rattle.file.specs.Lines.{Bytes, Lines, finished, torn, line}
+use Rattle.room.specs.Sales.{Bytes}
+use Rattle.file.specs.Lines.{Lines, finished, torn, line}
 use Rattle.file.specs.Fields.{holds_comma, field, behind}
 use Rattle.file.specs.Numbers.{number_of}
 use Rattle.file.specs.Hexadecimal.{all_hex_digits}
@@ -87,6 +88,7 @@ pub data Items : Type 0 where
   broken : FileFault → Items
   item : Item → Items → Items
 
+-- What a file says from a line on, by what is judged of the line.
 abbrev pub after_verdict : Verdict → (Section → Items) → Items
 after_verdict (refused f) go_on = broken f
 after_verdict (passed next) go_on = go_on next

@@ -1,6 +1,6 @@
 -- Bytes as a file writes them: each as two lower-case hexadecimal digits, the higher one first.
 use Rattle.std.specs.Prelude.{ℕ, ◌+◌, ◌-◌, ◌*◌, Bool, true, cond, ◌&&◌, ◌||◌, [], ◌∷◌, nat_le, nat_lt}
-use Rattle.file.specs.Lines.{Bytes}
+use Rattle.room.specs.Sales.{Bytes}
 
 -- Whether a byte is one of the digits 0 to 9 and a to f, and whether all bytes are.
 abbrev pub is_hex_digit : ℕ → Bool

@@ -3,8 +3,8 @@ pub mod Enrolling
 pub mod Faults
 pub mod Fields
 pub mod Form
-pub mod Holding
 pub mod Hexadecimal
+pub mod Holding
 pub mod Lines
 pub mod Numbers
 pub mod Read

@@ -1,8 +1,6 @@
 -- A file as lines, each ended by byte 10.
-use Rattle.std.specs.Prelude.{ℕ, cond, List, [], ◌∷◌, ◌==◌}
-
-abbrev pub Bytes : Type 0
-Bytes = List ℕ
+use Rattle.std.specs.Prelude.{ℕ, cond, [], ◌∷◌, ◌==◌}
+use Rattle.room.specs.Sales.{Bytes}
 
 -- The lines of a file: there are no more, or what is left is not ended by byte 10, or a line (without its byte 10) and those behind it.
 pub data Lines : Type 0 where

@@ -1,6 +1,6 @@
 -- Numbers as a file writes them: decimal digits without leading zeros, up to 4,294,967,295.
 use Rattle.std.specs.Prelude.{ℕ, ◌+◌, ◌-◌, ◌*◌, Bool, true, cond, not, ◌&&◌, ◌||◌, [], ◌∷◌, length, Some, None, Option, ◌==◌, nat_le, nat_lt, slice_index}
-use Rattle.file.specs.Lines.{Bytes}
+use Rattle.room.specs.Sales.{Bytes}
 
 -- Whether a byte is one of the digits 0 to 9, and whether all bytes are.
 abbrev pub is_digit : ℕ → Bool

@@ -4,8 +4,7 @@ use Rattle.room.specs.Calls.{Answer, Lodging, Closing, answer_to, room_after, pa
 use Rattle.room.specs.Faults.{fault_number as room_number}
 use Rattle.room.specs.Making.{new_room}
 use Rattle.room.specs.Rooms.{Contents as Room}
-use Rattle.file.specs.Lines.{Bytes}
-use Rattle.room.specs.Sales.{Sale}
+use Rattle.room.specs.Sales.{Bytes, Sale}
 use Rattle.file.specs.Contents.{Sent, Contents, contents_in}
 use Rattle.file.specs.Faults.{fault_number, line_of}
 use Rattle.file.specs.declared.faults.FileFault.{FileFault}

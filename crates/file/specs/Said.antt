@@ -16,6 +16,7 @@ abbrev pub said_by : Result Line FileFault → Result Item FileFault
 said_by (Ok l) = Ok (item_of l)
 said_by (Err f) = Err f
 
+-- What is made of a line that is admitted: it is passed where it says nothing.
 abbrev pub admitted : Option Line → Section → Verdict
 admitted None next = passed next
 admitted (Some l) next = said (item_of l) next

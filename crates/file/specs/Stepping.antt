@@ -1,4 +1,4 @@
--- How a reader moves: over the text that it has, on where a line is passed, and not at all where it is refused.
+-- How a reader moves over its text: past each line that is as it must be, and not at all where one is refused.
 use Rattle.std.specs.Prelude.{◌≡◌, ℕ, ◌<◌, ◌≤◌, length, drop, Some, None, Ok, Err, Option, Result}
 use Rattle.file.specs.declared.faults.FileFault.{FileFault}
 use Rattle.file.specs.declared.line.Line.{Line}
@@ -9,6 +9,7 @@ use Rattle.file.specs.declared.reader.Reader.{Reader}
 abbrev pub Moves : Reader → Reader → Type 0
 Moves before after = (k : ℕ) × (0 < k) × (k ≤ length before.rest.now) × (after.rest.now ≡ drop k before.rest.now)
 
+-- A reader that refuses a line stays where it is, and moves otherwise.
 abbrev pub Steps : Result (Option Line) FileFault → Reader → Reader → Type 0
 Steps (Err f) before after = after ≡ before
 Steps (Ok said) before after = Moves before after

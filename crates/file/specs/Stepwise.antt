@@ -1,23 +1,49 @@
--- Lodging the envelopes of a file one after the other, and holding its sale in a room.
-use Rattle.std.specs.Prelude.{◌≡◌, List, ◌++◌, map}
+-- What the steps of holding a sale do: lodging an envelope, lodging all, and the whole.
+use Rattle.std.specs.Prelude.{◌≡◌, ℕ, List, ◌++◌, map, Ok, Err, Vec, vec_items, Result}
 use Rattle.engine.specs.declared.variants.Variant.{Variant}
-use Rattle.room.specs.Calls.{Call, Lodging}
+use Rattle.room.specs.Calls.{Call, Lodging, Met, answer_to}
 use Rattle.room.specs.Rooms.{contents}
 use Rattle.room.specs.Runs.{Meeting, Runs, calls_of}
 use Rattle.room.specs.declared.state.RoomState.{RoomState}
-use Rattle.file.specs.Lines.{Bytes}
-use Rattle.file.specs.Contents.{Sent}
-use Rattle.file.specs.Report.{answer_lines, lodged_all}
+use Rattle.room.specs.Sales.{Bytes}
+use Rattle.file.specs.Contents.{Contents, Sent, contents_in}
+use Rattle.file.specs.Holding.{WasHeld}
+use Rattle.file.specs.Report.{two_values, answer_number, answer_lines, lodged_all, accepted_report}
+use Rattle.file.specs.declared.stopping.Stopped.{Stopped}
+use Rattle.file.specs.declared.stopping.Stopped.TheVariants.{Refused, Memory}
 
 -- The call that an envelope is lodged by.
 abbrev pub lodging_of : Sent → Call
 lodging_of e = Lodging e.envelope
 
--- Envelopes es were gone through until es' are left, above an engine of a variant. What is printed, with the answers to the envelopes left, comes to the
--- same as before, and so does the room that they leave; and the room's place has met the lodgings of the envelopes gone through, and nothing else.
+-- An envelope was lodged, and its line printed with the answer, above an engine of a variant.
+pub record LodgesOne (v : Variant) (out : Bytes) (s : RoomState) (e : Sent) (out' : Bytes) (s' : RoomState) : Type 0 where
+  pub prints : out' ≡ out ++ two_values e.at (answer_number (answer_to (contents v s) (lodging_of e)))
+  pub meets : Met v s (lodging_of e) (answer_to (contents v s) (lodging_of e)) s'
+
+-- Envelopes es were gone through until es' are left, above an engine of a variant. What is printed, with the answers to the envelopes left, comes
+-- to the same as before, and so does the room that they leave; and the room's place has met the lodgings of the envelopes gone through, and
+-- nothing else.
 pub record GoesThrough (v : Variant) (out : Bytes) (s : RoomState) (es : List Sent) (out' : Bytes) (s' : RoomState) (es' : List Sent) : Type 0 where
   pub prints : out' ++ answer_lines (contents v s') es' ≡ out ++ answer_lines (contents v s) es
   pub leaves : lodged_all (contents v s') es' ≡ lodged_all (contents v s) es
   pub meetings : List Meeting
   pub runs : Runs v s meetings s'
   pub lodges : calls_of meetings ++ map lodging_of es' ≡ map lodging_of es
+
+-- Bytes are what an accepted file prints, and its sale was held.
+pub record Reports (c : Contents) (out : Bytes) : Type 0 where
+  pub prints : out ≡ accepted_report c
+  pub held : WasHeld c
+
+-- A call that does its work or stops for want of memory, and refuses nothing.
+abbrev pub OrLacksMemory : {X : Type 0} → Result X Stopped → (X → Type 0) → Type 0
+OrLacksMemory (Ok x) P = P x
+OrLacksMemory (Err (Refused f)) P = ⊥
+OrLacksMemory (Err (Memory e)) P = Unit {0}
+
+-- The sale of a file is held and its report made, or the file is refused, or memory does not suffice. R is where the report's bytes are allocated.
+abbrev pub HoldsFile : {R : Type 0} → Bytes → Result (Vec ℕ R) Stopped → Type 0
+HoldsFile file (Ok out) = (c : Contents) × (contents_in file ≡ Ok c) × Reports c (vec_items out)
+HoldsFile file (Err (Refused f)) = contents_in file ≡ Err f
+HoldsFile file (Err (Memory e)) = Unit {0}

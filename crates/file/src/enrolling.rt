@@ -8,15 +8,16 @@ ghost use Rattle.file.specs.Hexadecimal.{written_bytes};
 use crate::faults::FileFault;
 use crate::gathering::Gathering;
 use crate::hexadecimal::decode;
+use cipher::KEY_BYTES;
 use list::Ordered;
 use room::RegisterEntry;
 
 // The bytes that the digits of a key write.
-fn key_of(digits: &[u8]) -> [u8; 16]
+fn key_of(digits: &[u8]) -> [u8; KEY_BYTES]
     requires { is_key digits.now ≡ true }
     ensures { result ≡ written_bytes digits.now }
 {
-    let mut key = [0; 16];
+    let mut key = [0; KEY_BYTES];
     decode(digits, &mut key);
     key
 }

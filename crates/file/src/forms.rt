@@ -8,11 +8,12 @@ use crate::fields::split_once;
 use crate::hexadecimal::are_digits;
 use crate::line::Line;
 use crate::numbers::number;
+use cipher::KEY_BYTES;
 use engine::Variant;
 use envelope::MOST_TERMS_BYTES;
 
 // The digits of a key.
-const KEY_DIGITS: usize = 32;
+const KEY_DIGITS: usize = 2 * KEY_BYTES;
 
 // A variant by its name. No `TryFrom`, since the variant is another crate's type, and these names are the file's alone.
 fn variant_named(name: &[u8]) -> Option<Variant>

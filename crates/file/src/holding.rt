@@ -4,13 +4,14 @@ ghost use Rattle.room.specs.Calls.{is_closed, page_of_room};
 ghost use Rattle.room.specs.Rooms.{contents};
 ghost use Rattle.file.specs.Contents.{said_in, envelopes_in};
 ghost use Rattle.file.specs.Enrolling.{sale_of};
-ghost use Rattle.file.specs.Holding.{OrLacksMemory, IsHeld, HoldsFile};
+ghost use Rattle.file.specs.Stepwise.{OrLacksMemory, Reports, HoldsFile};
 ghost use Rattle.file.specs.Theorems.{KeepsLimits};
 
 use crate::gathering::Gathered;
 use crate::lodging::lodge_all;
 use crate::stopping::Stopped;
 use crate::taking::gather;
+use cipher::KEY_BYTES;
 use circuit::Circuit;
 use engine::{Engine, Variant};
 use envelope::LETTER_BYTES;
@@ -35,7 +36,7 @@ fn add_page<E: Engine + Drop>(room: &mut Room<E>, out: &mut Vec<u8>) -> Result<(
 }
 
 // Holds the sale of a file that was gathered, by an engine of its variant: makes a room, lodges the envelopes in their order, closes and opens it.
-// Answers what is printed.
+// Answers what is printed. The envelopes are read from the text again, so that no place is needed to keep them.
 fn hold_by<E: Engine + Drop>(
     heap: Global,
     text: &[u8],
@@ -45,7 +46,7 @@ fn hold_by<E: Engine + Drop>(
 ) -> Result<Vec<u8>, Stopped>
     requires variant { E.kind engine ≡ sale.now.variant }
     requires limits { KeepsLimits (sale_of sale.now register.now) }
-    ensures { OrLacksMemory result (λ v. IsHeld (record { sale = sale_of sale.now register.now; envelopes = envelopes_in (said_in text.now) }) v.items) }
+    ensures { OrLacksMemory result (λ v. Reports (record { sale = sale_of sale.now register.now; envelopes = envelopes_in (said_in text.now) }) v.items) }
 {
     let mut place = RoomState::fresh();
     let mut room = Room {
@@ -68,7 +69,7 @@ pub(crate) fn hold(heap: Global, text: &[u8]) -> Result<Vec<u8>, Stopped>
 {
     let nobody = RegisterEntry {
         bidder: 0,
-        key: [0; 16],
+        key: [0; KEY_BYTES],
     };
     let mut places = [nobody; MOST_BIDDERS];
     let sale = gather(text, &mut places)?;

@@ -1,13 +1,10 @@
 // The envelopes of a sale file, lodged in their order.
-ghost use Rattle.std.specs.Prelude.{◌≡◌, true, [], ◌++◌, IfOk, OnOk};
-ghost use Rattle.room.specs.Calls.{Lodging, Met, answer_to};
-ghost use Rattle.room.specs.Rooms.{contents};
+ghost use Rattle.std.specs.Prelude.{◌≡◌, true, [], IfOk, OnOk};
 ghost use Rattle.file.specs.Contents.{said_in, envelopes_in};
 ghost use Rattle.file.specs.Form.{is_envelope, Items, item};
 ghost use Rattle.file.specs.Hexadecimal.{written_bytes};
-ghost use Rattle.file.specs.Report.{two_values, answer_number};
 ghost use Rattle.file.specs.Said.{item_of, WellFormed};
-ghost use Rattle.file.specs.Stepwise.{GoesThrough};
+ghost use Rattle.file.specs.Stepwise.{LodgesOne, GoesThrough};
 
 use crate::hexadecimal::decode;
 use crate::line::Line;
@@ -29,7 +26,8 @@ fn decoded(heap: Global, digits: &[u8]) -> Result<Vec<u8>, AllocError>
 }
 
 // Lodges the envelope of a line, and adds the line with the answer: by the rules of the report 0 where it is accepted, else the number of the
-// refusal. The room and the report go side by side: in a struct lent to a function, what the room's place holds would no longer be known once it is given back.
+// refusal. The room and the report go side by side: in a struct lent to a function, what the room's place holds would no longer be known once it
+// is given back.
 fn lodge_line<E: Engine + Drop>(
     room: &mut Room<E>,
     line: u32,
@@ -37,8 +35,7 @@ fn lodge_line<E: Engine + Drop>(
     out: &mut Vec<u8>,
 ) -> Result<(), AllocError>
     requires { is_envelope digits.now ≡ true }
-    ensures { OnOk result ((out.new.items ≡ out.old.items ++ two_values line (answer_number (answer_to (contents (E.kind room.old.engine) room.old.inner.now) (Lodging (written_bytes digits.now)))))
-        × Met (E.kind room.old.engine) room.old.inner.now (Lodging (written_bytes digits.now)) (answer_to (contents (E.kind room.old.engine) room.old.inner.now) (Lodging (written_bytes digits.now))) room.new.inner.now
+    ensures { OnOk result (LodgesOne (E.kind room.old.engine) out.old.items room.old.inner.now (record { at = line; envelope = written_bytes digits.now }) out.new.items room.new.inner.now
         × (room.new.engine ≡ room.old.engine)
         × (room.new.inner.ghost_name ≡ room.old.inner.ghost_name)) }
 {

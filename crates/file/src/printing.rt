@@ -14,8 +14,8 @@ pub(crate) fn put_values(out: &mut Vec<u8>, a: u32, b: u32) -> Result<(), AllocE
     out.extend_from_slice(line.as_bytes())
 }
 
-// What a refused file prints.
-pub(crate) fn print_refusal(heap: Global, f: FileFault) -> Result<Vec<u8>, AllocError>
+// The report of a refused file.
+pub(crate) fn refusal_report(heap: Global, f: FileFault) -> Result<Vec<u8>, AllocError>
     ensures { IfOk result (λ v. v.items ≡ refused_report f) }
 {
     let mut out = Vec::new(heap);

@@ -4,7 +4,7 @@ ghost use Rattle.file.specs.Holding.{Tells};
 
 use crate::faults::FileFault;
 use crate::holding::hold;
-use crate::printing::print_refusal;
+use crate::printing::refusal_report;
 use crate::stopping::Stopped;
 use std::alloc::{AllocError, Global};
 
@@ -25,7 +25,7 @@ pub fn report_on(heap: Global, text: &[u8]) -> Result<Report, AllocError>
             refusal: None,
         }),
         Err(Stopped::Refused(f)) => Ok(Report {
-            bytes: print_refusal(heap, f)?,
+            bytes: refusal_report(heap, f)?,
             refusal: Some(f),
         }),
         Err(Stopped::Memory(e)) => Err(e),

@@ -7,6 +7,7 @@ use crate::faults::FileFault;
 use room::RoomFault;
 use std::alloc::AllocError;
 
+// It has a `From` for each way, so that `?` takes all three.
 #[derive(Clone, Copy)]
 pub(crate) enum Stopped {
     // The file is refused.

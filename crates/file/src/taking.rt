@@ -13,6 +13,7 @@ use crate::reader::Reader;
 use engine::Variant;
 use room::{MOST_BIDDERS, RegisterEntry};
 
+// `same_places` is said of each method: a `&mut` does not say that the places lent are the same afterwards.
 impl<'a> Gathering<'a, '_> {
     // Takes in a line: the lot sets what was gathered, a bidder is enrolled, and an envelope changes nothing.
     fn take_in(&mut self, line: Line<'a>) -> Result<(), FileFault>

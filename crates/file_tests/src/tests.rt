@@ -350,6 +350,19 @@ fn bidders_are_gathered_by_rising_number(rt: HostRuntime) -> Result<(), Fail> {
 }
 
 #[test]
+fn bidders_before_a_refused_line_stay_in_their_places(rt: HostRuntime) {
+    let file =
+        "lot,variant,terms\n17,dumbo,\n\nbidder,key\n8,101112131415161718191a1b1c1d1e1f\n3,000102030405060708090a0b0c0d0e0f\n8,000102030405060708090a0b0c0d0e0f\n9,000102030405060708090a0b0c0d0e0f\n";
+    let mut places = [NOBODY; 64];
+    let refusal = gather(file.as_bytes(), &mut places).err();
+    assert_eq!(rt; refusal.map(|f| (f.number(), f.line())), Some((17, 7)));
+    assert_eq!(rt; places[0].bidder, 3);
+    assert_eq!(rt; places[1].bidder, 8);
+    assert_eq!(rt; places[1].key[0], 0x10);
+    assert_eq!(rt; places[2].bidder, 0);
+}
+
+#[test]
 fn a_reader_gives_envelopes_with_their_lines(rt: HostRuntime) -> Result<(), Fail> {
     let file =
         "lot,variant,terms\n17,dumbo,\n\nbidder,key\n3,000102030405060708090a0b0c0d0e0f\n\nenvelope\n00ff\n";

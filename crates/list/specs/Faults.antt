@@ -8,14 +8,14 @@ use Rattle.list.specs.declared.faults.ListFault.{ListFault}
 use Rattle.list.specs.declared.faults.ListFault.TheVariants.{EqualEntry, Full}
 
 -- 17 for an entry equal in order to one already there, 18 for a full list.
-abbrev pub number_of : ListFault → ℕ
-number_of EqualEntry = 17
-number_of Full = 18
+abbrev pub fault_number : ListFault → ℕ
+fault_number EqualEntry = 17
+fault_number Full = 18
 
 -- Every refusal by the list starts in the layer of the list.
-abbrev pub layer_of : ListFault → Layer
-layer_of f = ListLayer
+abbrev pub fault_layer : ListFault → Layer
+fault_layer f = ListLayer
 
 -- It lies nowhere in particular.
-abbrev pub place_of : ListFault → Place
-place_of f = Zero
+abbrev pub fault_place : ListFault → Place
+fault_place f = Zero

@@ -1,6 +1,6 @@
 // Why an insertion is refused.
 
-ghost use Rattle.list.specs.Faults.{number_of, layer_of, place_of};
+ghost use Rattle.list.specs.Faults.{fault_number, fault_layer, fault_place};
 
 use fault::{Fault, Layer, Place};
 
@@ -13,11 +13,11 @@ pub enum ListFault {
 }
 
 impl Fault for ListFault {
-    ghost number_is = { number_of };
+    ghost number_is = { fault_number };
 
-    ghost layer_is = { layer_of };
+    ghost layer_is = { fault_layer };
 
-    ghost place_is = { place_of };
+    ghost place_is = { fault_place };
 
     fn number(self) -> u8 {
         match self {

@@ -7,7 +7,7 @@ ghost use Rattle.list.specs.Keeping.{RisingStaysRising, KeepsEveryEntry};
 use crate::entry::Entry;
 use crate::faults::ListFault;
 
-// A list over lent places, so that it needs no heap: its entries are the first `count` of them, or all if `count` is larger.
+// By a rule of the project the list lies over lent places: its entries are the first `count` of them, or all if `count` is larger.
 // Over places that hold entries already it is made by writing both fields.
 #[derive(Drop)]
 pub struct Ordered<'a, T> {

@@ -1,5 +1,6 @@
 -- Each way out of lodging and asking.
-use Rattle.std.proofs.Common.{◌≡◌, ℕ, ◌^◌, ◌<◌, ◌≤◌, Bool, true, false, cond, eqb, ltb, List, [], ◌∷◌, length, get_or, take, set, Some, Ok, Err, Result, sym, refl, ap, ◌∙◌, arith}
+use Rattle.std.proofs.Common.{◌≡◌, ℕ, ◌^◌, ◌<◌, ◌≤◌, Bool, true, false, cond, eqb, ltb, List, [], ◌∷◌, length, get_or, take, set, Some, Ok, Err, Result, sym, refl, ap, ap₂, ◌∙◌, arith}
+use Rattle.std.proofs.Math.Bridge.{le_prop}
 use Rattle.std.specs.Int.Digits.{AllBelowBase}
 use Rattle.std.specs.Str.{bytes_eq}
 use Rattle.std.proofs.lemmas.Bool.{eq-eqb, eqb-true, lt-ltb, le-ltb}
@@ -12,10 +13,10 @@ use Rattle.envelope.specs.Heads.{lot_of, bidder_of, sequence_of}
 use Rattle.envelope.specs.declared.heads.HeadFields.{HeadFields}
 use Rattle.envelope.specs.Envelopes.{envelope_size, tag_part, right_tag}
 use Rattle.room.specs.Sales.{Bytes, registered, key_of, tag_due}
-use Rattle.room.specs.Rooms.{Contents, register_of, sale_of, kept_for, sequence_in, contents, holding_of, no_slot}
-use Rattle.room.specs.Calls.{Lodging, Asking, Answer, answer_to, room_after, lodging_checks, holding, Met}
+use Rattle.room.specs.Rooms.{Contents, register_of, sale_of, kept_for, sequence_in, filled, contents, holding_of}
+use Rattle.room.specs.Calls.{Lodging, Asking, Answer, answer_to, room_after, head_checks, tag_checks, fields_of, lodging_checks, holding, place_after, Met}
 use Rattle.room.specs.Admission.{admitted}
-use Rattle.room.specs.Slots.{room_of, filled, IsFirst, HasNone, head_checks, fields_of, tag_checks, Lodged}
+use Rattle.room.specs.Slots.{room_of, IsFirst, HasNone}
 use Rattle.room.specs.declared.admission.Op.TheVariants.{Lodge}
 use Rattle.room.specs.declared.faults.RoomFault.{RoomFault}
 use Rattle.room.specs.declared.faults.RoomFault.TheVariants.{Closed, EnvelopeLength, OtherLot, UnknownBidder, SequenceNotAbove, WrongTag}
@@ -24,7 +25,12 @@ use Rattle.room.specs.declared.slots.Phase.TheVariants.{Open, Closed as PhaseClo
 use Rattle.room.specs.declared.slots.Slot.{Slot}
 use Rattle.room.specs.declared.state.RoomState.{RoomState}
 use Rattle.room.proofs.CodeChecks.{not_both, same_value, same_reason, decided_front}
-use Rattle.room.proofs.CodeSlots.{last_is, kept_is, none_known, placed, put_at}
+use Rattle.room.proofs.CodeSlots.{no_slot, last_is, kept_is, none_known, placed, put_at, filled_at}
+
+-- What lodging into the slots of an open room promises.
+pub record Lodged (v : Variant) (lot : ℕ) (terms : Bytes) (before : List Slot) (e : Bytes) (a : Answer) (after : List Slot) : Type 0 where
+  pub answers : a ≡ answer_to (room_of v lot terms Open before) (Lodging e)
+  pub leaves : room_of v lot terms Open after ≡ room_after (room_of v lot terms Open before) (Lodging e)
 
 -- What is known once the head is read.
 pub head_read : (v : Variant) (lot : ℕ) (e : Bytes) (h : HeadFields) → ◌≡◌ {A = Result HeadFields RoomFault} (Ok h) (decided (head_checks v lot e) (fields_of e))
@@ -152,17 +158,25 @@ module _ (v : Variant) (lot : ℕ) (terms : Bytes) (xs : List Slot) (e : Bytes) 
   in_closed f Open h = absurd (not_both tt f (sym h))
   in_closed f PhaseClosed h = ap (λ g. Err g) (sym (same_reason f Closed h))
 
+-- A place written back: that its terms and its slots in use are within their arrays has one proof at most.
+pub written_back : (s : RoomState) (short : s.terms_bytes ≤ 64) (few : s.count ≤ 64) → record s { short = short; few = few } ≡ s
+written_back s short few = ap₂ (λ p q. record s { short = p; few = q }) (le_prop short s.short) (le_prop few s.few)
+
 pub met_open : (v : Variant) (r t : RoomState) (ys zs : List Slot) (e : Bytes) (a : Answer) → ◌≡◌ {A = Result (Unit {0}) RoomFault} (Ok tt) (admitted r.phase Lodge)
-    → contents v t ≡ room_of v r.lot (take r.terms_bytes r.terms) r.phase (take r.count ys) → take r.count ys ≡ zs
+    → t ≡ record r { slots = ys } → take r.count ys ≡ zs → record r { slots = ys } ≡ place_after r (Lodging e) a
     → Lodged v r.lot (take r.terms_bytes r.terms) (take r.count r.slots) e a zs → Met v r (Lodging e) a t
-met_open v r t ys zs e a o is put l =
+met_open v r t ys zs e a o is put whole l =
     let p = in_open v r.lot (take r.terms_bytes r.terms) (take r.count r.slots) e a zs l r.phase o in
-    record { answers = p.0; leaves = is ∙ ap (room_of v r.lot (take r.terms_bytes r.terms) r.phase) put ∙ p.1 }
+    record {
+      answers = p.0;
+      leaves = ap (contents v) is ∙ ap (room_of v r.lot (take r.terms_bytes r.terms) r.phase) put ∙ p.1;
+      place = is ∙ whole;
+    }
 
 pub met_closed : (v : Variant) (r : RoomState) (e : Bytes) (f : RoomFault) → ◌≡◌ {A = Result (Unit {0}) RoomFault} (Err f) (admitted r.phase Lodge) → Met v r (Lodging e) (Err f) r
 met_closed v r e f h =
     let p = in_closed v r.lot (take r.terms_bytes r.terms) (take r.count r.slots) e f r.phase h in
-    record { answers = sym p; leaves = rw p }
+    record { answers = sym p; leaves = rw p; place = refl }
 
 -- At the slot of the envelope's bidder. The slots are read back after the look at its sequence.
 module _ (v : Variant) (r t : RoomState) (e : Bytes) (head : HeadFields) (i : ℕ) (ss : List Slot) (o : ◌≡◌ {A = Result (Unit {0}) RoomFault} (Ok tt) (admitted r.phase Lodge))
@@ -177,18 +191,35 @@ module _ (v : Variant) (r t : RoomState) (e : Bytes) (head : HeadFields) (i : �
   small_here : (get_or (take r.count r.slots) i no_slot).sequence < 2 ^ 32
   small_here = let q = ap (λ x. x.sequence) here in omega arith
 
-  pub met_stale : contents v t ≡ room_of v r.lot (take r.terms_bytes r.terms) r.phase (take r.count ss) → head.sequence ≤ (get_or r.slots i no_slot).sequence → Met v r (Lodging e) (Err SequenceNotAbove) t
+  here_slot : (get_or r.slots i no_slot).bidder ≡ bidder_of e
+  here_slot = ap (λ x. x.bidder) (sym here) ∙ found.1 no_slot ∙ ap (λ h. h.bidder) read.2
+
+  first_slot : (k : ℕ) → k < i → (get_or r.slots k no_slot).bidder ≡ bidder_of e → ⊥
+  first_slot k l q =
+      found.2 k no_slot l (ap (λ x. x.bidder) (get_or-take r.count r.slots k no_slot (omega (arith, inside))) ∙ q ∙ sym (ap (λ h. h.bidder) read.2))
+
+  filled_here : (a : Answer) (y : Slot) → y ≡ left a (filled (get_or r.slots i no_slot) head.sequence e) (get_or r.slots i no_slot)
+      → record r { slots = set r.slots i y } ≡ place_after r (Lodging e) a
+  filled_here (Ok n) y h =
+      let long = length-take r.count r.slots in
+      ap (λ z. record r { slots = set r.slots i z }) (h ∙ ap (λ m. filled (get_or r.slots i no_slot) m e) (ap (λ g. g.sequence) read.2))
+      ∙ ap (λ zs. record r { slots = zs }) (filled_at e no_slot r.slots i (omega (arith, found.0)) here_slot first_slot)
+  filled_here (Err f) y h =
+      ap (λ z. record r { slots = set r.slots i z }) h ∙ ap (λ zs. record r { slots = zs }) (set-get_or r.slots i no_slot)
+
+  pub met_stale : t ≡ record r { slots = ss } → head.sequence ≤ (get_or r.slots i no_slot).sequence → Met v r (Lodging e) (Err SequenceNotAbove) t
   met_stale is low =
       let q = ap (λ x. x.sequence) here in
-      met_open v r t ss _ e _ o is (ap (take r.count) back) (way_stale v r.lot (take r.terms_bytes r.terms) (take r.count r.slots) e head read i found small_here (omega arith))
+      met_open v r t ss _ e _ o is (ap (take r.count) back) (ap (λ zs. record r { slots = zs }) back) (way_stale v r.lot (take r.terms_bytes r.terms) (take r.count r.slots) e head read i found small_here (omega arith))
 
-  pub met_kept : (a : Answer) (y : Slot) → contents v t ≡ room_of v r.lot (take r.terms_bytes r.terms) r.phase (take r.count (set ss i y)) → (get_or r.slots i no_slot).sequence < head.sequence → AllBelowBase 256 e
+  pub met_kept : (a : Answer) (y : Slot) → t ≡ record r { slots = set ss i y } → (get_or r.slots i no_slot).sequence < head.sequence → AllBelowBase 256 e
       → a ≡ decided (tag_checks v (get_or ss i no_slot).key (take r.terms_bytes r.terms) head e) head.sequence
       → y ≡ left a (filled (get_or ss i no_slot) head.sequence e) (get_or ss i no_slot) → Met v r (Lodging e) a t
   met_kept a y is high under ha hy =
       let q = ap (λ x. x.sequence) here in
       let there : get_or ss i no_slot ≡ get_or (take r.count r.slots) i no_slot = ap (λ z. get_or z i no_slot) back ∙ sym here in
       met_open v r t (set ss i y) _ e a o is (ap (λ z. take r.count (set z i y)) back ∙ take-set-lt r.count r.slots i y inside)
+      (ap (λ zs. record r { slots = set zs i y }) back ∙ filled_here a y (hy ∙ ap (λ zs. left a (filled (get_or zs i no_slot) head.sequence e) (get_or zs i no_slot)) back))
       (way_kept v r.lot (take r.terms_bytes r.terms) (take r.count r.slots) e head read i found small_here (omega arith) under a y
       (ha ∙ ap (λ x. decided (tag_checks v x.key (take r.terms_bytes r.terms) head e) head.sequence) there) (hy ∙ ap (λ x. left a (filled x head.sequence e) x) there))
 
@@ -198,11 +229,11 @@ module _ (v : Variant) (r : RoomState) (b : ℕ) where
   front = take r.count r.slots
 
   pub ask_unknown : HasNone front b → Met v r (Asking b) (Err UnknownBidder) r
-  ask_unknown h = let k = none_known v r.lot no_slot front b h in record { answers = rw k; leaves = refl }
+  ask_unknown h = let k = none_known v r.lot no_slot front b h in record { answers = rw k; leaves = refl; place = refl }
 
   pub ask_known : (i n : ℕ) → IsFirst front b i → n ≡ (get_or front i no_slot).sequence → n < 2 ^ 32 → Met v r (Asking b) (Ok n) r
   ask_known i n first is small =
       let p = placed v r.lot no_slot front i b first.0 (first.1 no_slot) (λ k l. first.2 k no_slot l) in
       let known = p.0 in
       let kept = ap sequence_in p.2 ∙ last_is v r.lot (get_or front i no_slot) (omega arith) in
-      record { answers = rw known (ap (λ m. Ok m) (is ∙ sym kept)); leaves = refl }
+      record { answers = rw known (ap (λ m. Ok m) (is ∙ sym kept)); leaves = refl; place = refl }

@@ -1,5 +1,5 @@
 -- Facts about registers that rise, and about a room just made.
-use Rattle.std.proofs.Common.{◌≡◌, ◌&&◌, ℕ, zero, suc, ◌+◌, Bool, ltb, leb, sym, subst, add-one, arith, ◌^◌, ◌<◌, ◌≤◌, true, false, List, [], ◌∷◌, ◌++◌, map, length, get_or, take, Ok, refl, ap, ◌∙◌, ap₂}
+use Rattle.std.proofs.Common.{◌≡◌, ◌&&◌, ℕ, zero, suc, ◌+◌, Bool, ltb, leb, sym, subst, add-one, arith, ◌^◌, ◌<◌, ◌≤◌, true, false, List, [], ◌∷◌, map, length, get_or, take, drop, Ok, refl, ap, ◌∙◌, ap₂}
 use Rattle.std.specs.List.{AllByRecursion, IsAllAdjacentAnswer}
 use Rattle.std.proofs.ByRecursion.{All-push}
 use Rattle.std.proofs.lemmas.Bool.{le-leb, lt-leb, ltb-true, ltb-false}
@@ -8,6 +8,7 @@ use Rattle.engine.specs.declared.variants.Variant.{Variant}
 use Rattle.room.specs.Sales.{Bytes}
 use Rattle.room.specs.Rooms.{holding_of, contents}
 use Rattle.room.specs.Slots.{new_slot, room_of}
+use Rattle.room.specs.Opening.{written_over}
 use Rattle.room.specs.Making.{rises_from, lawful_register, nothing_held, Made}
 use Rattle.room.specs.declared.register.RegisterEntry.{RegisterEntry}
 use Rattle.room.specs.declared.slots.Phase.TheVariants.{Open}
@@ -54,18 +55,20 @@ new_held : (v : Variant) (lot : ℕ) (rs : List RegisterEntry) → map (holding_
 new_held v lot [] = refl
 new_held v lot (r ∷ rs) = ap (λ hs. nothing_held r ∷ hs) (new_held v lot rs)
 
-pub made_granted : (lot : ℕ) (terms : Bytes) (register : List RegisterEntry) (before after : RoomState) (ts : Bytes) (ss : List Slot) (more : Bytes) (others : List Slot)
+pub made_granted : (lot : ℕ) (terms : Bytes) (register : List RegisterEntry) (before after : RoomState) (ts : Bytes) (ss : List Slot)
     → length terms ≤ 64 → lawful_register register ≡ true → lot < 2 ^ 32 → AllByRecursion Fits register
-    → ts ≡ terms ++ more → ss ≡ map new_slot register ++ others
+    → ts ≡ written_over terms before.terms → ss ≡ written_over (map new_slot register) before.slots → after.terms ≡ ts → after.slots ≡ ss
     → ((v : Variant) → contents v after ≡ room_of v lot (take (length terms) ts) Open (take (length register) ss))
     → Made lot terms register before (Ok tt) after
-made_granted lot terms register before after ts ss more others short lawful fits all et es is =
-    let pt : take (length terms) ts ≡ terms = ap (take (length terms)) et ∙ take_at terms more (length terms) refl in
-    let ps : take (length register) ss ≡ map new_slot register = ap (take (length register)) es ∙ take_at (map new_slot register) others (length register) (length-map register new_slot) in
-    let ph : (v : Variant) → map (holding_of v lot) (take (length register) ss) ≡ map nothing_held register = λ v. ap (map (holding_of v lot)) ps ∙ new_held v lot register in
+made_granted lot terms register before after ts ss short lawful fits all et es pt ps is =
+    let t : take (length terms) ts ≡ terms = ap (take (length terms)) et ∙ take_at terms (drop (length terms) before.terms) (length terms) refl in
+    let n = length-map register new_slot in
+    let s : take (length register) ss ≡ map new_slot register = ap (take (length register)) es ∙ take_at (map new_slot register) (drop (length (map new_slot register)) before.slots) (length register) n in
+    let h : (v : Variant) → map (holding_of v lot) (take (length register) ss) ≡ map nothing_held register = λ v. ap (map (holding_of v lot)) s ∙ new_held v lot register in
     record {
       answers = rw (le-leb (length terms) 64 short, lawful);
-      leaves = λ v. is v ∙ ap₂ (λ t hs. record { variant = v; lot = lot; terms = t; phase = Open; holdings = hs }) pt (ph v);
+      leaves = λ v. is v ∙ ap₂ (λ t hs. record { variant = v; lot = lot; terms = t; phase = Open; holdings = hs }) t (h v);
+      place = (pt ∙ et, ps ∙ es);
       lot_fits = fits;
       bidders_fit = all;
     }

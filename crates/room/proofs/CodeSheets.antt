@@ -13,7 +13,8 @@ use Rattle.envelope.specs.Envelopes.{head_part, sealed_part, tag_part}
 use Rattle.envelope.proofs.Laws.{amount_in_le}
 use Rattle.room.specs.Sales.{Bytes}
 use Rattle.room.specs.Page.{line, page}
-use Rattle.room.specs.Rooms.{Holding, Contents, envelope_in, holding_of, no_slot}
+use Rattle.room.specs.Rooms.{Holding, Contents, envelope_in, holding_of}
+use Rattle.room.proofs.CodeSlots.{no_slot}
 use Rattle.room.specs.Calls.{amount_held, amount_of_holding, listed}
 use Rattle.room.specs.Opening.{written_over}
 use Rattle.room.specs.Slots.{room_of, sheet_in}

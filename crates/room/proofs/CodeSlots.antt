@@ -10,10 +10,14 @@ use Rattle.envelope.specs.Envelopes.{envelope_size, sealed_part, tag_part}
 use Rattle.envelope.proofs.HeadLaws.{sequence_back}
 use Rattle.envelope.proofs.Laws.{head_back}
 use Rattle.room.specs.Sales.{Bytes, registered, key_of}
-use Rattle.room.specs.Rooms.{entry_of, kept_for, sequence_in, accepted, envelope_in, holding_of}
-use Rattle.room.specs.Slots.{new_slot, filled, HasNone}
+use Rattle.room.specs.Rooms.{entry_of, kept_for, sequence_in, accepted, filled, filled_in, envelope_in, holding_of}
+use Rattle.room.specs.Slots.{new_slot, HasNone}
 use Rattle.room.specs.declared.register.RegisterEntry.{RegisterEntry}
 use Rattle.room.specs.declared.slots.Slot.{Slot}
+
+-- What a read behind the last slot would give.
+abbrev pub no_slot : Slot
+no_slot = record { bidder = 0; key = []; sequence = 0; letter = []; tag = [] }
 
 -- A slot's sequence is that of its envelope.
 pub last_is : (v : Variant) (lot : ℕ) (x : Slot) → x.sequence < 2 ^ 32 → sequence_in (envelope_in v lot x) ≡ x.sequence
@@ -24,7 +28,7 @@ last_is v lot x h = go (eqb x.sequence 0) refl
     go false e = sequence_back lot x.bidder x.sequence _ h
 
 -- An accepted envelope is the one that its slot keeps.
-whole : (e : Bytes) → take 12 e ++ (take 64 (drop 12 e) ++ drop 76 e) ≡ e
+pub whole : (e : Bytes) → take 12 e ++ (take 64 (drop 12 e) ++ drop 76 e) ≡ e
 whole e =
     ap (λ r. take 12 e ++ (take 64 (drop 12 e) ++ r)) (sym (drop-drop 64 12 e))
     ∙ ap (λ r. take 12 e ++ r) (take-append-drop 64 (drop 12 e))
@@ -60,6 +64,14 @@ module _ (v : Variant) (lot : ℕ) (d : Slot) where
   put_at e (x ∷ xs) zero y l h none f = rw (eq-eqb _ _ h) (ap (λ z. z ∷ map (holding_of v lot) xs) f)
   put_at e (x ∷ xs) (suc i) y l h none f =
       rw (ne_eqb _ _ (none 0 (omega arith))) (ap (λ zs. holding_of v lot x ∷ zs) (put_at e xs i y (omega arith) h (λ k m. none (suc k) (omega arith)) f))
+
+-- Filling the first slot of the envelope's bidder.
+pub filled_at : (e : Bytes) (d : Slot) (xs : List Slot) (i : ℕ) → i < length xs → (get_or xs i d).bidder ≡ bidder_of e → ((k : ℕ) → k < i → (get_or xs k d).bidder ≡ bidder_of e → ⊥)
+    → set xs i (filled (get_or xs i d) (sequence_of e) e) ≡ filled_in e xs
+filled_at e d [] i l h none = absurd (omega arith)
+filled_at e d (x ∷ xs) zero l h none = rw (eq-eqb _ _ h) refl
+filled_at e d (x ∷ xs) (suc i) l h none =
+    rw (ne_eqb _ _ (none 0 (omega arith))) (ap (λ zs. x ∷ zs) (filled_at e d xs i (omega arith) h (λ k m. none (suc k) (omega arith))))
 
 -- New slots, one more.
 slots_suc : (rs : List RegisterEntry) (d : List Slot) (i : ℕ) (z : RegisterEntry) → i < length rs → length rs ≤ length d

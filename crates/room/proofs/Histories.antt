@@ -1,14 +1,15 @@
 -- What a history leaves: the envelopes that stand are kept, and a closed room prints their page.
-use Rattle.std.proofs.Common.{◌≡◌, ℕ, Bool, true, false, cond, ◌&&◌, eqb, leb, List, [], ◌∷◌, map, length, take, replicate, None, Ok, sym, refl, ap, ◌∙◌, subst, ap₂, subst₂, inl, inr}
+use Rattle.std.proofs.Common.{◌≡◌, ℕ, Bool, true, false, cond, ◌&&◌, eqb, leb, List, [], ◌∷◌, ◌++◌, map, length, take, replicate, None, Ok, sym, refl, ap, ◌∙◌, subst, ap₂, subst₂, inl, inr}
 use mathlib.Core.Path.{fun_ext}
 use Rattle.std.proofs.lemmas.List.{take_at}
 use Rattle.std.proofs.lemmas.Bool.{and_parts}
 use Rattle.room.specs.Sales.{Bytes, registered}
 use Rattle.room.specs.Rooms.{entry_of, sale_of, kept_for, contents}
-use Rattle.room.specs.Calls.{Opening, opening_checks, answer_to, sheet_of, page_of_room}
-use Rattle.room.specs.Making.{making_checks, rises_from, nothing_held}
+use Rattle.room.specs.Calls.{Call, Answer, Met, Opening, opening_checks, answer_to, sheet_of, page_of_room}
+use Rattle.engine.specs.declared.variants.Variant.{Variant}
+use Rattle.room.specs.Making.{Made, making_checks, rises_from, nothing_held}
 use Rattle.room.specs.Opening.{Lent, sizes_of, written_over}
-use Rattle.room.specs.Runs.{Meeting, Runs, none, calls_of, lodged, History, sale, IsClosed, envelopes, Stands, Prints}
+use Rattle.room.specs.Runs.{Meeting, met, Runs, none, more, calls_of, lodged, History, sale, IsClosed, envelopes, Stands, Prints}
 use Rattle.room.specs.Promise.{ExactlyOne}
 use Rattle.room.specs.declared.register.RegisterEntry.{RegisterEntry}
 use Rattle.room.specs.declared.state.RoomState.{RoomState}
@@ -64,7 +65,7 @@ module _ (x : History) where
   unfoldable pub room_kept : Kept
   room_kept = kept_for (contents x.variant x.room).holdings
 
-  room_holds : Holds (sale x) (envelopes x) room_kept
+  pub room_holds : Holds (sale x) (envelopes x) room_kept
   unfolding room_kept
   room_holds =
       let same : kept_in (after (sale x) (Taking nothing) (calls_of x.meetings)) ≡ kept_for (contents x.variant x.room).holdings =
@@ -125,7 +126,7 @@ module _ (x : History) where
           given_back = record { sheet = written_over (sheet_of c) wide.sheet; page = written_over (page_of_room c) wide.page; work = replicate (length wide.work) 0 };
           after = x.room;
           opened = record {
-            meets = record { answers = sym wide_granted; leaves = refl };
+            meets = record { answers = sym wide_granted; leaves = refl; place = refl };
             sheet = refl;
             page = refl;
             work = refl;
@@ -136,3 +137,26 @@ module _ (x : History) where
     pub left_by : (p : Bytes) → Prints x p → Left (sale x) (envelopes x) p
     unfolding its_page
     left_by p h = record { kept = room_kept; is = only_page p h; holds = room_holds }
+
+-- Calls one after the other, and then more of them.
+pub runs_on : {v : Variant} {r s t : RoomState} {ms ns : List Meeting} → Runs v r ms s → Runs v s ns t → Runs v r (ms ++ ns) t
+runs_on none b = b
+runs_on (more m a) b = more m (runs_on a b)
+
+-- A history of no calls, and one of one call more.
+abbrev pub begun : (v : Variant) (lot : ℕ) (terms : Bytes) (register : List RegisterEntry) (before start : RoomState) → Made lot terms register before (Ok tt) start → History
+begun v lot terms register before start m = record {
+  variant = v;
+  lot = lot;
+  terms = terms;
+  register = register;
+  before = before;
+  start = start;
+  meetings = [];
+  room = start;
+  made = m;
+  runs = none;
+}
+
+abbrev pub gone_on : (x : History) (c : Call) (a : Answer) (t : RoomState) → Met x.variant x.room c a t → History
+gone_on x c a t m = record x { meetings = x.meetings ++ (met c a ∷ []); room = t; runs = runs_on x.runs (more m none) }

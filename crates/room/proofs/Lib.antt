@@ -16,7 +16,10 @@ pub mod Pages
 pub mod Chains
 pub mod Amounts
 pub mod Histories
+pub mod Registers
+pub mod KeptBids
 pub mod OneBidder
+pub mod FourBidders
 pub mod Occurring
 pub mod Whole
 pub mod Worked

@@ -1,5 +1,5 @@
 -- Rooms that meet what the promise asks of histories: two that differ in a letter, and two that differ in order.
-use Rattle.std.proofs.Common.{◌≡◌, ℕ, zero, suc, ◌≤◌, ◌⊎◌, List, [], ◌∷◌, ◌++◌, replicate, Some, None, Ok, Err, sym, refl, ap, ◌∙◌, subst, inl, inr, ⊎_elim, arith}
+use Rattle.std.proofs.Common.{◌≡◌, ℕ, zero, suc, ◌<◌, ◌≤◌, ◌⊎◌, List, [], ◌∷◌, replicate, Some, None, Ok, Err, sym, refl, ap, ◌∙◌, subst, inl, inr, ⊎_elim, arith}
 use Rattle.std.specs.List.{slice_get}
 use Rattle.engine.specs.declared.variants.Variant.{Variant}
 use Rattle.envelope.specs.Letters.{most_cents}
@@ -9,18 +9,19 @@ use Rattle.room.specs.Calls.{Call, Lodging, Asking, Closing, Opening}
 use Rattle.room.specs.Runs.{met, none, more, History, sale, envelopes, Stands}
 use Rattle.room.specs.Promise.{Sealed, RoomsThatDifferInALetter, RoomsThatDifferInOrder}
 use Rattle.room.specs.declared.faults.RoomFault.TheVariants.{SequenceNotAbove}
+use Rattle.room.specs.declared.slots.Slot.{Slot}
 use Rattle.room.proofs.Bids.{bid_bidder, bid_genuine, bid_amount}
 use Rattle.room.proofs.Amounts.{pages_tell}
 use Rattle.room.proofs.Histories.{lawful_sale, left_by, one_amount}
-use Rattle.room.proofs.OneBidder.{sold, envelope, letter_in, tag_in, filled, filled_keeps, sealed, e_sequence, takes, refuses, closes, history}
+use Rattle.room.proofs.OneBidder.{sold, envelope, filled, filled_keeps, sealed, e_sequence, takes, refuses, closes, history}
 
 module _ (v : Variant) where
   -- One bid, and closing.
   module _ (amount : ℕ) (affordable : amount ≤ most_cents) where
     a_single_bid : History
     a_single_bid =
-        history v (met (Lodging (envelope v 1 amount)) (Ok 1) ∷ met Closing (Ok 0) ∷ []) (filled v 1 amount)
-        (more (takes v 1 amount (omega arith) (omega arith) affordable 0 (replicate 64 0) (replicate 16 0) None refl (omega arith)) (more (closes v (filled v 1 amount)) none))
+        history v (met (Lodging (envelope v 1 amount)) (Ok 1) ∷ met Closing (Ok 0) ∷ []) (filled v 1 amount (replicate 16 0))
+        (more (takes v 1 amount (omega arith) (omega arith) affordable 0 (replicate 64 0) (replicate 16 0) None refl (omega arith)) (more (closes v (filled v 1 amount (replicate 16 0))) none))
 
     one_stands : Stands a_single_bid 3 amount
     unfolding a_single_bid sealed
@@ -73,17 +74,28 @@ module _ (v : Variant) where
   abbrev second : Bytes
   second = envelope v 2 6
 
+  abbrev first_slot : Slot
+  first_slot = filled v 1 5 (replicate 16 0)
+
+  abbrev second_slot : Slot
+  second_slot = filled v 2 6 (replicate 16 0)
+
+  abbrev renewed_slot : Slot
+  renewed_slot = filled v 2 6 first_slot.tag
+
   in_order : History
   in_order =
-      history v (met (Lodging first) (Ok 1) ∷ met (Lodging second) (Ok 2) ∷ met Closing (Ok 0) ∷ []) (filled v 2 6)
+      let up : sequence_of first < 2 = omega (arith, e_sequence v 1 5 (omega arith) (omega arith) (omega arith)) in
+      history v (met (Lodging first) (Ok 1) ∷ met (Lodging second) (Ok 2) ∷ met Closing (Ok 0) ∷ []) renewed_slot
       (more (takes v 1 5 (omega arith) (omega arith) (omega arith) 0 (replicate 64 0) (replicate 16 0) None refl (omega arith))
-      (more (takes v 2 6 (omega arith) (omega arith) (omega arith) 1 (letter_in v 1 5) (tag_in v 1 5 ++ replicate 8 0) (Some first) (filled_keeps v 1 5 (omega arith)) (omega (arith, e_sequence v 1 5 (omega arith) (omega arith) (omega arith)))) (more (closes v (filled v 2 6)) none)))
+      (more (takes v 2 6 (omega arith) (omega arith) (omega arith) 1 first_slot.letter first_slot.tag (Some first) (filled_keeps v 1 5 (replicate 16 0) (omega arith)) up) (more (closes v renewed_slot) none)))
 
   in_reverse : History
   in_reverse =
-      history v (met (Lodging second) (Ok 2) ∷ met (Lodging first) (Err SequenceNotAbove) ∷ met Closing (Ok 0) ∷ []) (filled v 2 6)
+      let low : 1 ≤ sequence_of second = omega (arith, e_sequence v 2 6 (omega arith) (omega arith) (omega arith)) in
+      history v (met (Lodging second) (Ok 2) ∷ met (Lodging first) (Err SequenceNotAbove) ∷ met Closing (Ok 0) ∷ []) second_slot
       (more (takes v 2 6 (omega arith) (omega arith) (omega arith) 0 (replicate 64 0) (replicate 16 0) None refl (omega arith))
-      (more (refuses v 1 5 (omega arith) (omega arith) (omega arith) 2 (letter_in v 2 6) (tag_in v 2 6 ++ replicate 8 0) (Some second) (filled_keeps v 2 6 (omega arith)) (omega (arith, e_sequence v 2 6 (omega arith) (omega arith) (omega arith)))) (more (closes v (filled v 2 6)) none)))
+      (more (refuses v 1 5 (omega arith) (omega arith) (omega arith) 2 second_slot.letter second_slot.tag (Some second) (filled_keeps v 2 6 (replicate 16 0) (omega arith)) low) (more (closes v second_slot) none)))
 
   first_sequence : sequence_of first ≡ 1
   first_sequence = e_sequence v 1 5 (omega arith) (omega arith) (omega arith)
@@ -139,6 +151,13 @@ module _ (v : Variant) where
     x_closed = refl;
     y_closed = refl;
     alike = refl;
+    first = first;
+    second = second;
+    two = λ same. omega (arith, first_sequence, second_sequence, ap sequence_of same);
+    first_genuine = bid_genuine (sold v) 17 3 1 first (sealed v 1 5 (omega arith) (omega arith)) refl (omega arith);
+    second_genuine = bid_genuine (sold v) 17 3 2 second (sealed v 2 6 (omega arith) (omega arith)) refl (omega arith);
+    in_order = refl;
+    in_reverse = refl;
     lists_differ = λ h. omega (arith, first_sequence, second_sequence, ap first_call h);
     same_envelopes = λ e. (swapped first second e, swapped second first e);
     one_to_a_head = λ e f (i, he) (j, hf) ge gf lot bidder sequence.

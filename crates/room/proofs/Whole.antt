@@ -11,7 +11,7 @@ use Rattle.room.proofs.Order.{same_held}
 use Rattle.room.proofs.Secret.{secret}
 use Rattle.room.proofs.Bids.{bid_genuine, bid_amount}
 use Rattle.room.proofs.Amounts.{Left, pages_tell}
-use Rattle.room.proofs.Histories.{lawful_sale, same_meetings, its_page, some_page, only_page, left_by, one_amount, unregistered}
+use Rattle.room.proofs.Histories.{lawful_sale, same_meetings, its_page, some_page, only_page, left_by, one_amount, unregistered, begun, gone_on}
 use Rattle.room.proofs.Occurring.{differ_in_a_letter, differ_in_order}
 
 order_proof : (x y : History) → IsClosed x → IsClosed y → sale x ≡ sale y → ((e : Bytes) → Among (envelopes x) e ↔ Among (envelopes y) e) → OneToAHead (sale x) (envelopes x) → (p q : Bytes) → Prints x p → Prints y q → p ≡ q
@@ -39,6 +39,8 @@ promised = record {
   unregistered_bidders_stand_with_0 = unregistered;
   sealed_bids_are_genuine_and_stand_with_their_amount = λ x b n e q counted.
       (bid_genuine (sale x) x.lot b n e q refl counted, λ st. inl (e, st, sym (bid_amount (sale x) x.lot b n e q)));
+  every_making_begins_a_history = λ v lot terms register before start m. (begun v lot terms register before start m, refl, refl, refl);
+  every_call_goes_on = λ x c a t m. (gone_on x c a t m, refl, refl, refl);
   some_rooms_differ_in_a_letter = differ_in_a_letter;
   some_rooms_differ_in_order = differ_in_order;
 }

@@ -2,6 +2,7 @@
 use Rattle.std.proofs.Common.{◌≡◌, ℕ, ◌+◌, ◌/◌, ◌<◌, cond, ltb, List, [], ◌∷◌, map, length, sym, refl, ap, ◌∙◌, ap₂, arith, length-append}
 use Rattle.std.specs.Fmt.{digits}
 use Rattle.std.proofs.lemmas.List.{take_at}
+use Rattle.std.proofs.lemmas.Bool.{eq-eqb, ne_eqb, lt-leb, le-ltb}
 use Rattle.std.specs.Int.Digits.{number_from_digits}
 use Rattle.engine.specs.Bits.{bits, block}
 use Rattle.engine.specs.Spongent.{substitute, counter, next}
@@ -15,14 +16,17 @@ use Rattle.envelope.proofs.LetterLaws.{unlawful_amount}
 use Rattle.envelope.proofs.HeadLaws.{number_back}
 use Rattle.envelope.proofs.Laws.{letter_lawful}
 use Rattle.room.specs.Sales.{Bytes}
+use Rattle.room.specs.Calls.{lodging_checks}
 use Rattle.room.specs.Page.{names, line, page}
 use Rattle.room.specs.Runs.{History, sale, envelopes, IsClosed, Stands, Prints}
-use Rattle.room.specs.Examples.{substituted_byte, dumbo_parts, page_17, WorkedExamples}
+use Rattle.room.specs.Examples.{substituted_byte, dumbo_parts, page_17, ChecksInOrder, WorkedExamples}
 use Rattle.room.specs.declared.register.RegisterEntry.{RegisterEntry}
 use Rattle.room.specs.declared.sheet.SheetEntry.{SheetEntry}
 use Rattle.room.proofs.Law.{sheet_by}
 use Rattle.room.proofs.Amounts.{amounts, amount_only}
 use Rattle.room.proofs.Histories.{left_by}
+use Rattle.room.proofs.Registers.{lawful_exactly}
+use Rattle.room.proofs.FourBidders.{room_of_lot_17}
 
 substitutes : (substituted_byte 0x1F ≡ 0xD6 ∷ []) × (substituted_byte 0x00 ≡ 0xEE ∷ [])
 unfolding bits block substitute
@@ -76,6 +80,18 @@ lot_17 x c lot bidders a3 a5 a8 a9 p h =
     ∙ ap₂ page lot (sheet_rows _ x.register ∙ ap (rows _) bidders ∙ four_rows _ (is 3 _ a3) (is 5 _ a5) (is 8 _ a8) (is 9 _ a9))
     ∙ page_text
 
+in_order : ChecksInOrder
+unfolding lodging_checks
+in_order = record {
+  making_looks_at_the_terms_first = λ terms register long. rw (lt-leb (length terms) 64 long) refl;
+  lodging_looks_at_the_phase_first = λ r e. refl;
+  then_at_the_length = λ r e p h. rw (p, ne_eqb _ _ h) refl;
+  then_at_the_lot = λ r e p l h. rw (p, eq-eqb _ _ l, ne_eqb _ _ h) refl;
+  then_at_the_bidder = λ r e p l q h. rw (p, eq-eqb _ _ l, eq-eqb _ _ q, h) refl;
+  then_at_the_sequence = λ r e p l q k h. rw (p, eq-eqb _ _ l, eq-eqb _ _ q, k, le-ltb _ _ h) refl;
+  opening_looks_at_the_phase_first = λ r o p. rw p refl;
+}
+
 pub worked : WorkedExamples
 unfolding phi1
 worked = record {
@@ -91,6 +107,12 @@ worked = record {
   eight_bytes_of_associated_data_have_two_parts = λ nonce associated a b. dumbo_part_count nonce associated 8 a b;
   the_limit_is_lawful = λ note h. letter_lawful 999999999999 note (omega arith) h;
   one_cent_more_is_not = λ note. sym (unlawful_amount (letter 1000000000000 note) (too_much note));
+  a_register_is_lawful_exactly_when_it_has_1_to_64_entries_by_rising_bidder = lawful_exactly;
+  checks_in_order = in_order;
+  asking_is_answered_after_closing_as_before = λ r b. refl;
+  lodged_before_the_granted_closing = λ d e h b o f g. refl;
+  answers_up_to_and_with_the_granted_closing = λ e b o f g. refl;
   the_page_of_a_sheet_of_lot_17 = page_text;
   rooms_of_lot_17_print_it = lot_17;
+  there_are_rooms_of_lot_17 = room_of_lot_17;
 }

@@ -1,5 +1,5 @@
 -- The calls upon a room: what each answers, and the room that it leaves.
-use Rattle.std.specs.Prelude.{◌≡◌, ℕ, Bool, true, false, cond, ◌&&◌, List, [], ◌∷◌, length, Some, None, Ok, Err, Option, Result, ◌==◌, nat_le, nat_lt}
+use Rattle.std.specs.Prelude.{◌≡◌, ℕ, Bool, true, false, cond, ◌&&◌, List, [], ◌∷◌, ◌++◌, length, Some, None, Ok, Err, Option, Result, ◌==◌, nat_le, nat_lt}
 use Rattle.std.specs.Str.{bytes_eq}
 use Rattle.fault.specs.Checks.{Check, decided, left}
 use Rattle.engine.specs.declared.variants.Variant.{Variant}
@@ -7,9 +7,10 @@ use Rattle.cipher.specs.declared.faults.CipherFault.TheVariants.{WrongTag as Cip
 use Rattle.envelope.specs.Letters.{amount_offered}
 use Rattle.envelope.specs.Heads.{lot_of, bidder_of, sequence_of}
 use Rattle.envelope.specs.Envelopes.{envelope_size, tag_part, right_tag, letter_sealed_in}
-use Rattle.room.specs.Sales.{Bytes, registered, tag_due}
+use Rattle.envelope.specs.declared.heads.HeadFields.{HeadFields}
+use Rattle.room.specs.Sales.{Bytes, registered, key_of}
 use Rattle.room.specs.Page.{page}
-use Rattle.room.specs.Rooms.{Holding, Contents, register_of, sale_of, kept_for, sequence_in, accepted, contents}
+use Rattle.room.specs.Rooms.{Holding, Contents, register_of, kept_for, sequence_in, accepted, filled_in, contents}
 use Rattle.room.specs.declared.faults.RoomFault.{RoomFault}
 use Rattle.room.specs.declared.faults.RoomFault.TheVariants.{Closed, EnvelopeLength, OtherLot, UnknownBidder, SequenceNotAbove, WrongTag, NotClosed, Places}
 use Rattle.room.specs.declared.sheet.SheetEntry.{SheetEntry}
@@ -68,12 +69,25 @@ sheet_of r = listed r r.holdings
 abbrev pub page_of_room : Contents → Bytes
 page_of_room r = page r.lot (sheet_of r)
 
+-- The checks of lodging that look at the head alone.
+abbrev pub head_checks : Variant → ℕ → Bytes → List (Check RoomFault)
+head_checks v lot e = ((length e == envelope_size v), EnvelopeLength) ∷ (((lot_of e == lot), OtherLot) ∷ [])
+
+-- What the head of an envelope says.
+abbrev pub fields_of : Bytes → HeadFields
+fields_of e = record { lot = lot_of e; bidder = bidder_of e; sequence = sequence_of e }
+
+-- The check of lodging that looks at the tag. A refusal tells what the head says.
+abbrev pub tag_checks : Variant → Bytes → Bytes → HeadFields → Bytes → List (Check RoomFault)
+tag_checks v key terms h e = (bytes_eq (tag_part e) (right_tag v key terms e), WrongTag h.bidder h.sequence CipherWrongTag) ∷ []
+
 -- The checks of each call, in their order.
 unfoldable pub lodging_checks : Contents → Bytes → List (Check RoomFault)
 lodging_checks r e =
-    (is_open r.phase, Closed) ∷ (((length e == envelope_size r.variant), EnvelopeLength) ∷ (((lot_of e == r.lot), OtherLot)
-    ∷ ((registered (register_of r) (bidder_of e), UnknownBidder) ∷ ((nat_lt (sequence_in (kept_for r.holdings (bidder_of e))) (sequence_of e), SequenceNotAbove)
-    ∷ ((bytes_eq (tag_part e) (tag_due (sale_of r) e), WrongTag (bidder_of e) (sequence_of e) CipherWrongTag) ∷ [])))))
+    ((is_open r.phase, Closed) ∷ head_checks r.variant r.lot e)
+    ++ ((registered (register_of r) (bidder_of e), UnknownBidder)
+    ∷ ((nat_lt (sequence_in (kept_for r.holdings (bidder_of e))) (sequence_of e), SequenceNotAbove)
+    ∷ tag_checks r.variant (key_of (register_of r) (bidder_of e)) r.terms (fields_of e) e))
 
 abbrev pub asking_checks : Contents → ℕ → List (Check RoomFault)
 asking_checks r b = (registered (register_of r) b, UnknownBidder) ∷ []
@@ -106,7 +120,17 @@ room_after r (Asking b) = r
 room_after r Closing = left (answer_to r Closing) (closed r) r
 room_after r (Opening o) = r
 
--- What every call promises, above an engine of a variant, of the place before it, its answer and the place after it.
+-- The place that a call leaves, used parts and unused: a granted lodging fills one slot, a granted closing ends the phase, and nothing else
+-- changes a place. So a refusal changes nothing.
+abbrev pub place_after : RoomState → Call → Answer → RoomState
+place_after s (Lodging e) a = left a (record s { slots = filled_in e s.slots }) s
+place_after s (Asking b) a = s
+place_after s Closing a = left a (record s { phase = PhaseClosed }) s
+place_after s (Opening o) a = s
+
+-- What every call promises, above an engine of a variant, of the place before it, its answer and the place after it: of what the place holds of a
+-- room, and of the whole place.
 pub record Met (v : Variant) (before : RoomState) (c : Call) (a : Answer) (after : RoomState) : Type 0 where
   pub answers : a ≡ answer_to (contents v before) c
   pub leaves : contents v after ≡ room_after (contents v before) c
+  pub place : after ≡ place_after before c a

@@ -1,5 +1,5 @@
 -- The promise: what is said of rooms after every list of calls, whatever engines they have.
-use Rattle.std.specs.Prelude.{◌≡◌, ℕ, ◌^◌, ◌<◌, ◌≤◌, true, ◌⊎◌, ◌↔◌, List, Ok, Result, ◌≢◌}
+use Rattle.std.specs.Prelude.{◌≡◌, ℕ, ◌^◌, ◌<◌, ◌≤◌, true, ◌⊎◌, ◌↔◌, List, [], ◌∷◌, ◌++◌, Ok, Result, ◌≢◌}
 use Rattle.std.specs.List.{AllZip}
 use Rattle.engine.specs.declared.variants.Variant.{Variant}
 use Rattle.envelope.specs.Envelopes.{bid}
@@ -9,8 +9,11 @@ use Rattle.envelope.specs.declared.faults.EnvelopeFault.{EnvelopeFault}
 use Rattle.envelope.specs.declared.heads.Head.{Head}
 use Rattle.envelope.specs.declared.pens.Pen.{Pen}
 use Rattle.room.specs.Sales.{Bytes, Sale, Among, OneToAHead, Standing, registered, key_of}
-use Rattle.room.specs.Calls.{Call, Lodging}
-use Rattle.room.specs.Runs.{History, sale, IsClosed, envelopes, GenuineIn, Stands, Prints, calls_of, answers_to_closing}
+use Rattle.room.specs.Calls.{Call, Answer, Lodging, Met}
+use Rattle.room.specs.Making.{Made}
+use Rattle.room.specs.Runs.{met, History, sale, IsClosed, envelopes, GenuineIn, Stands, Prints, calls_of, answers_to_closing}
+use Rattle.room.specs.declared.register.RegisterEntry.{RegisterEntry}
+use Rattle.room.specs.declared.state.RoomState.{RoomState}
 
 -- Exactly one x is such that P x.
 abbrev pub ExactlyOne : {X : Type 0} → (X → Type 0) → Type 0
@@ -46,8 +49,8 @@ pub record RoomsThatDifferInALetter (v : Variant) : Type 0 where
   pub only_letters_differ : AllZip (SameButForALetter x) (calls_of x.meetings) (calls_of y.meetings)
   pub pages_differ : (p q : Bytes) → Prints x p → Prints y q → p ≢ q
 
--- Two closed rooms of a variant, alike, that have met different lists with the same envelopes, none of which share a head, where a bidder stands
--- with an amount above 0.
+-- Two closed rooms of a variant, alike, in which two different genuine envelopes were lodged in opposite orders: so they have met different lists
+-- with the same envelopes. No two of these share a head, and a bidder stands with an amount above 0.
 pub record RoomsThatDifferInOrder (v : Variant) : Type 0 where
   pub x : History
   pub y : History
@@ -55,6 +58,13 @@ pub record RoomsThatDifferInOrder (v : Variant) : Type 0 where
   pub x_closed : IsClosed x
   pub y_closed : IsClosed y
   pub alike : sale x ≡ sale y
+  pub first : Bytes
+  pub second : Bytes
+  pub two : first ≢ second
+  pub first_genuine : GenuineIn x first
+  pub second_genuine : GenuineIn x second
+  pub in_order : envelopes x ≡ first ∷ second ∷ []
+  pub in_reverse : envelopes y ≡ second ∷ first ∷ []
   pub lists_differ : calls_of x.meetings ≡ calls_of y.meetings → ⊥
   pub same_envelopes : (e : Bytes) → Among (envelopes x) e ↔ Among (envelopes y) e
   pub one_to_a_head : OneToAHead (sale x) (envelopes x)
@@ -92,6 +102,15 @@ pub record Promise : Type 0 where
   pub sealed_bids_are_genuine_and_stand_with_their_amount :
       (x : History) (bidder sequence : ℕ) (e : Bytes) (q : Sealed (sale x) x.lot bidder sequence e) → 1 ≤ sequence
       → GenuineIn x e × (Standing (sale x) (envelopes x) bidder e → Stands x bidder q.amount)
+  -- Histories are all that rooms go through. Every granted making begins one, above an engine of any variant, and every call upon its room goes on
+  -- with it.
+  pub every_making_begins_a_history :
+      (v : Variant) (lot : ℕ) (terms : Bytes) (register : List RegisterEntry) (before start : RoomState)
+      → Made lot terms register before (Ok tt) start
+      → (x : History) × (sale x ≡ record { variant = v; lot = lot; terms = terms; register = register }) × (x.meetings ≡ []) × (x.room ≡ start)
+  pub every_call_goes_on :
+      (x : History) (c : Call) (a : Answer) (after : RoomState) → Met x.variant x.room c a after
+      → (y : History) × (sale y ≡ sale x) × (y.meetings ≡ x.meetings ++ (met c a ∷ [])) × (y.room ≡ after)
   -- None of this holds for want of rooms: there are two that differ in a letter and print different pages, and two that differ in order.
   pub some_rooms_differ_in_a_letter : (v : Variant) → RoomsThatDifferInALetter v
   pub some_rooms_differ_in_order : (v : Variant) → RoomsThatDifferInOrder v

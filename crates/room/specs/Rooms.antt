@@ -1,8 +1,9 @@
 -- What a room holds, as its callers know it, and what a place of the program holds of it.
-use Rattle.std.specs.Prelude.{ℕ, cond, List, [], ◌∷◌, ◌++◌, map, take, Some, None, Option, ◌==◌}
+use Rattle.std.specs.Prelude.{ℕ, cond, List, [], ◌∷◌, ◌++◌, map, length, take, drop, Some, None, Option, ◌==◌}
 use Rattle.engine.specs.declared.variants.Variant.{Variant}
 use Rattle.cipher.specs.Mode.{tag_size}
 use Rattle.envelope.specs.Heads.{head, bidder_of, sequence_of}
+use Rattle.envelope.specs.Envelopes.{sealed_part, tag_part}
 use Rattle.room.specs.Sales.{Bytes, Sale}
 use Rattle.room.specs.declared.register.RegisterEntry.{RegisterEntry}
 use Rattle.room.specs.declared.slots.Phase.{Phase}
@@ -49,6 +50,16 @@ accepted e [] = []
 accepted e (h ∷ hs) =
     cond (h.bidder == bidder_of e) (record { bidder = h.bidder; key = h.key; envelope = Some e } ∷ hs) (h ∷ accepted e hs)
 
+-- A slot after an envelope of a sequence is accepted: only the first bytes of the tag are used by variants with short tags.
+abbrev pub filled : Slot → ℕ → Bytes → Slot
+filled x n e =
+    record { bidder = x.bidder; key = x.key; sequence = n; letter = sealed_part e; tag = tag_part e ++ drop (length (tag_part e)) x.tag }
+
+-- The slots after an envelope is accepted: the first one of its bidder is filled, and the others are as they were.
+abbrev pub filled_in : Bytes → List Slot → List Slot
+filled_in e [] = []
+filled_in e (x ∷ xs) = cond (x.bidder == bidder_of e) (filled x (sequence_of e) e ∷ xs) (x ∷ filled_in e xs)
+
 -- The envelope that a slot keeps, of which the head is kept as numbers: none at sequence 0.
 abbrev pub envelope_in : Variant → ℕ → Slot → Option Bytes
 envelope_in v lot x =
@@ -66,7 +77,3 @@ contents v s = record {
   phase = s.phase;
   holdings = map (holding_of v s.lot) (take s.count s.slots);
 }
-
--- What a read behind the last slot would give.
-abbrev pub no_slot : Slot
-no_slot = record { bidder = 0; key = []; sequence = 0; letter = []; tag = [] }

@@ -3,8 +3,8 @@ ghost use Rattle.std.specs.Prelude.{◌≡◌, length};
 ghost use Rattle.fault.specs.Checks.{decided, left};
 ghost use Rattle.engine.specs.declared.variants.Variant.{Variant as Kind};
 ghost use Rattle.envelope.specs.Envelopes.{envelope_size};
-ghost use Rattle.room.specs.Slots.{filled, head_checks, tag_checks, fields_of};
-ghost use Rattle.room.specs.Calls.{Lodging, Asking, Closing, Met, without_number};
+ghost use Rattle.room.specs.Rooms.{filled};
+ghost use Rattle.room.specs.Calls.{Lodging, Asking, Closing, Met, without_number, head_checks, tag_checks, fields_of};
 
 use crate::admission::Op;
 use crate::conditions::Conditions;

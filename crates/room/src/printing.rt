@@ -58,7 +58,8 @@ fn put_number(page: &mut [u8], at: usize, n: u64) -> usize
 }
 
 // Writes bytes at a place, and answers where they end.
-// Each function here answers where it ends, since the next piece begins there and a lent page keeps no place of its own.
+// Each function here answers where it ends, since the next piece begins there and a lent page keeps no place of its own. So each asks for room for
+// its piece from there on.
 fn put(page: &mut [u8], at: usize, bytes: &[u8]) -> usize
     requires { at + length bytes.now ≤ length page.old }
     ensures end { result ≡ at + length bytes.now }

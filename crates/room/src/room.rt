@@ -20,6 +20,7 @@ pub struct Room<'r, E: Engine + Drop> {
     pub engine: E,
 }
 
+// That engine and place stay is said at each call that may change the room: a `&mut` says of neither that it is the same afterwards.
 impl<'r, E: Engine + Drop> Room<'r, E> {
     // Makes the room: it is open afterwards, and nothing is lodged yet. A refusal leaves the place as it was.
     pub fn make(
@@ -61,7 +62,7 @@ impl<'r, E: Engine + Drop> Room<'r, E> {
     }
 
     // Opens all that was lodged: lists each bidder whose amount is above 0 on the sheet, writes the page, and answers its length. The work
-    // area is all zero afterwards, granted or refused.
+    // area is all zero afterwards, granted or refused. The three places are lent one by one: in a struct, what they hold would be lost.
     pub fn open(
         &mut self,
         sheet: &mut [SheetEntry],

@@ -1,6 +1,7 @@
 // What a room keeps for each registered bidder, and its phase.
 ghost use Rattle.std.specs.Prelude.{◌≡◌, ◌^◌, ◌<◌, ◌≤◌, length, MatchResult};
-ghost use Rattle.room.specs.Slots.{filled, new_slot, IsFirst, HasNone};
+ghost use Rattle.room.specs.Rooms.{filled};
+ghost use Rattle.room.specs.Slots.{new_slot, IsFirst, HasNone};
 ghost use Rattle.room.specs.declared.faults.RoomFault.TheVariants.{UnknownBidder};
 
 use crate::faults::RoomFault;

@@ -1,11 +1,10 @@
 // The calls of a sale, and what they answer.
 use crate::bidding::{bid, key_of, unlawful};
+use crate::opening::{open_with_nothing, open_with_others, print_page};
+use crate::telling::{done, tell, tell_refusal};
 use engine::Engine;
-use envelope::{HeadFields, LETTER_BYTES, Pen, envelope_bytes};
-use fault::Fault;
-use room::{MOST_BIDDERS, MOST_PAGE_BYTES, RegisterEntry, Room, RoomFault, RoomState, SheetEntry};
-use std::io::Write;
-use std::{fmt, io};
+use envelope::{HeadFields, Pen, envelope_bytes};
+use room::{RegisterEntry, Room, RoomState};
 
 const LOT: u32 = 17;
 
@@ -16,24 +15,6 @@ fn entry(bidder: u32) -> RegisterEntry {
         bidder,
         key: key_of(bidder),
     }
-}
-
-// What a call answers, or the number of its refusal.
-fn tell<T: fmt::Display + Drop>(
-    rt: &HostRuntime,
-    call: &str,
-    answer: Result<T, RoomFault>,
-) -> anyhow::Result<()> {
-    match answer {
-        Ok(answer) => println!(rt; "{call}: {answer}")?,
-        Err(f) => println!(rt; "{call}: refused with {}", f.number())?,
-    }
-    Ok(())
-}
-
-// What a call answers that has nothing to say but that it is done.
-fn done(answer: Result<(), RoomFault>) -> Result<&'static str, RoomFault> {
-    answer.map(|()| "done")
 }
 
 // Seals a bid with the pen and lodges it.
@@ -47,26 +28,8 @@ fn lodge_bid<E: Engine + Copy>(
     let mut place = vec![in rt.alloc(); 0u8; envelope_bytes(room.engine.variant())]?;
     match bid(&room.engine, pen, bidder, amount, b"", &mut place) {
         Ok(()) => tell(rt, "lodging", room.lodge(&place)),
-        Err(f) => {
-            println!(rt; "sealing: refused with {}", f.number())?;
-            Ok(())
-        }
+        Err(fault) => tell_refusal(rt, "sealing", fault),
     }
-}
-
-// Opens the room and prints its page.
-fn print_page<E: Engine + Copy>(rt: &HostRuntime, room: &mut Room<E>) -> anyhow::Result<()> {
-    let mut sheet = [SheetEntry {
-        bidder: 0,
-        amount: 0,
-    }; MOST_BIDDERS];
-    let mut page = [0u8; MOST_PAGE_BYTES];
-    let mut work = [0u8; LETTER_BYTES];
-    match room.open(&mut sheet, &mut page, &mut work) {
-        Ok(n) => io::writer(rt).write_all(&page[..n])?,
-        Err(f) => println!(rt; "opening: refused with {}", f.number())?,
-    }
-    Ok(())
 }
 
 // Lodgings of every kind, then the closing and two openings. Bidder 9 withdraws, and bidder 4 has an unlawful letter.
@@ -94,8 +57,12 @@ pub fn hold_sale<E: Engine + Copy>(
     lodge_bid(rt, &mut room, &mut pen, 7, 1)?;
     lodge_refused(rt, &mut room)?;
     print_page(rt, &mut room)?;
+    open_with_nothing(rt, &mut room)?;
     tell(rt, "closing", done(room.close()))?;
     lodge_bid(rt, &mut room, &mut pen, 8, 999_999)?;
+    tell(rt, "lodging no bytes", room.lodge(b""))?;
+    tell(rt, "asking for bidder 5", room.ask(5))?;
+    open_with_others(rt, &mut room)?;
     print_page(rt, &mut room)?;
     print_page(rt, &mut room)
 }
@@ -134,6 +101,21 @@ fn lodge_refused<E: Engine + Copy>(rt: &HostRuntime, room: &mut Room<E>) -> anyh
     tell(rt, "asking for bidder 6", room.ask(6))
 }
 
+// Makings that are refused, for a register, for terms, and for both: the room of before is still there.
+fn make_refused<E: Engine + Copy>(rt: &HostRuntime, room: &mut Room<E>) -> anyhow::Result<()> {
+    let none = room.make(18, b"", &[]);
+    tell(rt, "making without a register", done(none))?;
+    let equal = room.make(18, b"", &[entry(3), entry(3)]);
+    tell(rt, "making with equal bidders", done(equal))?;
+    let falling = room.make(18, b"", &[entry(5), entry(3)]);
+    tell(rt, "making with falling bidders", done(falling))?;
+    let long = room.make(18, &[0; 65], &[entry(2)]);
+    tell(rt, "making with 65 bytes of terms", done(long))?;
+    let both = room.make(18, &[0; 65], &[]);
+    tell(rt, "making with both", done(both))?;
+    tell(rt, "asking for bidder 4", room.ask(4))
+}
+
 // A room made anew over an old one: nothing of it is left.
 pub fn hold_again<E: Engine + Copy>(
     rt: &HostRuntime,
@@ -144,11 +126,7 @@ pub fn hold_again<E: Engine + Copy>(
         inner: place,
         engine,
     };
-    tell(
-        rt,
-        "making without a register",
-        done(room.make(18, b"", &[])),
-    )?;
+    make_refused(rt, &mut room)?;
     let made = room.make(18, b"", &[entry(2), entry(3)]);
     tell(rt, "making again", done(made))?;
     tell(rt, "asking for bidder 3", room.ask(3))?;

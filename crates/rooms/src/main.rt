@@ -4,6 +4,8 @@
 
 mod bidding;
 mod holding;
+mod opening;
+mod telling;
 
 use circuit::Circuit;
 use engine::Engine;

@@ -15,7 +15,7 @@ use std::process::ExitCode;
 // One byte more than a sale file may have: a longer file is refused alike, whatever follows.
 const MOST_BYTES_READ: u64 = 32_769;
 
-// The status of a run that printed no report.
+// The status of a run that did not get its report printed.
 const NOTHING_PRINTED: u8 = 2;
 
 // Standard input, as far as it can matter.

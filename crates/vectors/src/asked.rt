@@ -7,7 +7,7 @@ use std::{env, fmt};
 
 // The engines by their names.
 #[derive(Clone, Copy, PartialEq, Eq)]
-pub enum EngineName {
+pub(crate) enum EngineName {
     Plain,
     Circuit,
     Interleaved,
@@ -36,9 +36,9 @@ impl FromStr for EngineName {
     }
 }
 
-// Every how many records one is tried by the plain engine, which is slow, and the only engine that is run, if one is named.
+// Of how many records the plain engine, which is slow, tries one; and the only engine that is run, if one is named.
 #[derive(Drop)]
-pub struct Asked {
+pub(crate) struct Asked {
     step: usize,
     engine: Option<EngineName>,
     ghost above: { 0 < step },
@@ -46,7 +46,7 @@ pub struct Asked {
 
 impl Asked {
     // Reads the arguments. Without them every record is tried by every engine.
-    pub fn read(rt: &HostRuntime) -> anyhow::Result<Asked> {
+    pub(crate) fn read(rt: &HostRuntime) -> anyhow::Result<Asked> {
         let mut words = env::args(rt)?;
         let _program = words.next();
         let Some(word) = words.next() else {
@@ -69,12 +69,12 @@ impl Asked {
     }
 
     // Whether an engine is run.
-    pub fn wants(&self, name: EngineName) -> bool {
+    pub(crate) fn wants(&self, name: EngineName) -> bool {
         self.engine.is_none_or(|only| only == name)
     }
 
-    // Every how many records one is tried by an engine.
-    pub fn step(&self, name: EngineName) -> usize
+    // Of how many records an engine tries one.
+    pub(crate) fn step(&self, name: EngineName) -> usize
         ensures { 0 < result }
     {
         match name {

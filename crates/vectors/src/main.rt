@@ -1,5 +1,6 @@
 // Runs the published values of the permutations and the known answers of data/ through every engine of their variant,
-// and prints how many agree. A first argument N has every N-th record of each file tried, and a second only one engine.
+// and prints how many agree. A first argument N has the plain engine try every N-th record of each
+// file, and a second has only one engine run.
 #![tactic(auto)]
 
 ghost use Rattle.std.specs.Prelude.{◌≡◌, ℕ, ◌<◌};
@@ -27,6 +28,7 @@ const KECCAK: &str = "published values of Keccak-f[200]";
 
 const SPONGENT: &str = "published value of SPONGENT-160/160/16";
 
+// The file of a variant: the names of the data files are this program's alone.
 fn file_of(variant: Variant) -> &'static str {
     match variant {
         Variant::Dumbo => "dumbo.txt",
@@ -110,7 +112,7 @@ fn try_records<E: Engine>(
     Ok(tally)
 }
 
-// Runs the records through an engine of their variant.
+// Runs the records through an engine of their variant. It stands beside `run_values`, since a trial of records may fail, and is told by the variant.
 fn run_engine<E: Engine>(
     rt: &HostRuntime,
     asked: &Asked,

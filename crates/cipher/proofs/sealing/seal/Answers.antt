@@ -23,7 +23,7 @@ pub returns-clause-tag : goal.returns-clause-tag
 unfolding tag tag_from
 returns-clause-tag g c =
     let v = g.E.Engine.kind c.args.engine.now in
-    let ad = c.args.associated.now in
+    let associated = c.args.associated.now in
     let keyed = c.in_ok-keyed.keyed in
     let m = c.in_ok-lawful.lawful.nonce.now in
     let nonce : m ≡ c.args.nonce.now = search rules in
@@ -31,9 +31,9 @@ returns-clause-tag g c =
     let size : length c.args.tag.now ≡ tag_size v = search rules in
     let cut : length c.args.tag.now - 0 ≡ tag_size v = omega arith in
     let sealed = returns-clause-out g c in
-    let block : held v c.tag.new.block ≡ enciphered v (first_mask v c.args.key.now) (tag_sum v (first_mask v c.args.key.now) c.args.nonce.now ad (sealed_text v c.args.key.now c.args.nonce.now c.args.text.now)) 0 0 =
+    let block : held v c.tag.new.block ≡ enciphered v (first_mask v c.args.key.now) (tag_sum v (first_mask v c.args.key.now) c.args.nonce.now associated (sealed_text v c.args.key.now c.args.nonce.now c.args.text.now)) 0 0 =
     ap (λ e. held (g.E.Engine.kind e) c.tag.new.block) (sym c.in_ok-keyed.ensures.0) ∙ c.tag.ensures.block
-    ∙ ap (λ e. enciphered (g.E.Engine.kind e) (held (g.E.Engine.kind e) keyed.first) (tag_sum (g.E.Engine.kind e) (held (g.E.Engine.kind e) keyed.first) m ad c.stream.new.out) 0 0) c.in_ok-keyed.ensures.0
-    ∙ ap (λ f. enciphered v f (tag_sum v f m ad c.stream.new.out) 0 0) (c.in_ok-keyed.ensures.1 ∙ ap (first_mask v) key)
-    ∙ ap₂ (λ y s. enciphered v (first_mask v c.args.key.now) (tag_sum v (first_mask v c.args.key.now) y ad s) 0 0) nonce sealed in
+    ∙ ap (λ e. enciphered (g.E.Engine.kind e) (held (g.E.Engine.kind e) keyed.first) (tag_sum (g.E.Engine.kind e) (held (g.E.Engine.kind e) keyed.first) m associated c.stream.new.out) 0 0) c.in_ok-keyed.ensures.0
+    ∙ ap (λ f. enciphered v f (tag_sum v f m associated c.stream.new.out) 0 0) (c.in_ok-keyed.ensures.1 ∙ ap (first_mask v) key)
+    ∙ ap₂ (λ y s. enciphered v (first_mask v c.args.key.now) (tag_sum v (first_mask v c.args.key.now) y associated s) 0 0) nonce sealed in
     c.copy_from_slice.ensures.after ∙ tag_held v c.tag.new.block _ (length c.args.tag.now - 0) cut block

@@ -4,7 +4,7 @@ use Rattle.room.specs.Rooms.{contents}
 use Rattle.room.proofs.CodeChecks.{not_both}
 use Rattle.file.specs.Contents.{said_in, envelopes_in}
 use Rattle.file.specs.Enrolling.{sale_of}
-use Rattle.file.proofs.Held.{through_by, met_by, made_granted, close_granted, history, is_held, prints_page, all_printed}
+use Rattle.file.proofs.Held.{through_by, met_by, made_granted, close_granted, was_held, all_printed}
 use Rattle.file.proofs.holding.hold_by.Goals as goal
 
 pub returns-in_err-make : goal.returns-in_err-make
@@ -31,9 +31,5 @@ returns g c =
     let of = c.requires.variant in
     record {
       prints = all_printed (kind c.args.engine) s es of _ _ _ _ _ made through _ closing _ _ (c.in_ok-extend_from_slice.ensures.items ∙ ap (λ z. z ++ codes "line,answer\n") c.new-out.ensures.items) c.in_ok-extend_from_slice-2.ensures.items page;
-      held = (
-        history (kind c.args.engine) s es of _ _ _ _ _ made through _ closing,
-        is_held (kind c.args.engine) s es of _ _ _ _ _ made through _ closing,
-        prints_page (kind c.args.engine) s es of _ _ _ _ _ made through _ closing,
-      );
+      held = was_held (kind c.args.engine) s es of _ _ _ _ _ made through _ closing;
     }

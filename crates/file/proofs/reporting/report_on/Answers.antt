@@ -1,8 +1,6 @@
 use Rattle.std.proofs.Common.{◌≡◌, sym, ap, ◌∙◌, subst}
-use Rattle.room.specs.Runs.{History, Prints}
-use Rattle.file.specs.Contents.{Contents}
-use Rattle.file.specs.Holding.{Held}
-use Rattle.file.specs.Report.{report_by, refusal_by, page_in}
+use Rattle.file.specs.Holding.{WasHeld}
+use Rattle.file.specs.Report.{report_by, refusal_by}
 use Rattle.file.proofs.reporting.report_on.Goals as goal
 
 pub returns-in-Ok : goal.returns-in-Ok
@@ -13,5 +11,5 @@ returns-in-Ok c =
       refuses = ap refusal_by (sym h.1);
       held = λ d e.
           let same : h.0 ≡ d = cc in
-          subst (λ (z : Contents). (x : History) × Held z x × Prints x (page_in z)) same h.2.held;
+          subst WasHeld same h.2.held;
     }

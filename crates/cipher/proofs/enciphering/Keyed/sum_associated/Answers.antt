@@ -26,16 +26,16 @@ returns-clause-sum g c =
     let n = block_size v in
     let first = held v c.args.self.now.first in
     let nonce = c.args.nonce.now in
-    let ad = c.args.associated.now in
+    let associated = c.args.associated.now in
     let w = c.block_bytes-within.result - 12 in
-    let rest = take (length ad - w) (drop w ad) in
+    let rest = take (length associated - w) (drop w associated) in
     let twelve : length nonce ≡ 12 = search rules in
     let wide : c.block_bytes-within.result ≡ n = c.block_bytes-within.ensures ∙ ap block_size by in
-    let start : held v c.start_sum.new.sum ≡ part n 0 (nonce ++ closed ad) =
-    ap (λ w. held w c.start_sum.new.sum) (sym by) ∙ c.start_sum.ensures ∙ ap (λ w. part (block_size w) 0 (nonce ++ closed ad)) by in
+    let start : held v c.start_sum.new.sum ≡ part n 0 (nonce ++ closed associated) =
+    ap (λ w. held w c.start_sum.new.sum) (sym by) ∙ c.start_sum.ensures ∙ ap (λ w. part (block_size w) 0 (nonce ++ closed associated)) by in
     let mask : held v c.phi1.new.block ≡ phi1 v first =
     ap (λ w. held w c.phi1.new.block) (sym by) ∙ c.phi1.ensures ∙ ap (λ w. phi1 w (held w c.args.self.now.first)) by in
-    let whole : rest ≡ drop (n - 12) ad = take_all (length ad - w) (drop w ad) (omega (arith, length-drop w ad)) ∙ ap (λ m. drop (m - 12) ad) wide in
+    let whole : rest ≡ drop (n - 12) associated = take_all (length associated - w) (drop w associated) (omega (arith, length-drop w associated)) ∙ ap (λ m. drop (m - 12) associated) wide in
     c.absorb.ensures.sum
     ∙ ap (λ b. absorbed v (held v c.phi1.new.block) 0 (parts n (length (closed rest))) 0 (closed rest) b) start
-    ∙ associated_long v first (held v c.phi1.new.block) nonce ad rest twelve (wide_nonce v) (omega arith) mask whole
+    ∙ associated_long v first (held v c.phi1.new.block) nonce associated rest twelve (wide_nonce v) (omega arith) mask whole

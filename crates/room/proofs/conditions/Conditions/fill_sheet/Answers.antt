@@ -1,5 +1,5 @@
 use Rattle.std.proofs.Common.{◌<◌, length, get_or, refl, ◌∙◌, arith}
-use Rattle.room.specs.Rooms.{no_slot}
+use Rattle.room.proofs.CodeSlots.{no_slot}
 use Rattle.room.proofs.CodeSheets.{Fits, fits_more, sheet_step}
 use Rattle.room.proofs.conditions.Conditions.fill_sheet.Goals as goal
 

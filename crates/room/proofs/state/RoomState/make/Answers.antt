@@ -1,5 +1,7 @@
-use Rattle.std.proofs.Common.{◌≡◌, ◌-◌, ◌≤◌, true, ◌++◌, length, refl, ap, rules}
+use Rattle.std.proofs.Common.{◌≡◌, ◌-◌, ◌≤◌, true, ◌++◌, map, length, drop, refl, sym, arith, ap, ◌∙◌, rules}
+use Rattle.std.proofs.lemmas.List.{length-map}
 use borrow.Rule.Slice.PartMut.{post_of}
+use Rattle.room.specs.Slots.{new_slot}
 use Rattle.room.specs.Making.{lawful_register}
 use Rattle.room.proofs.CodeMaking.{made_granted}
 use Rattle.room.proofs.state.RoomState.make.Goals as goal
@@ -8,5 +10,7 @@ pub returns : goal.returns
 returns c =
     let short : length c.args.terms.now ≤ 64 = search rules in
     let lawful : lawful_register c.args.register.now ≡ true = search rules in
-    made_granted c.args.lot c.args.terms.now c.args.register.now c.args.self.now _ _ _ _ _ short lawful c.ranges.lot.fits c.enroll.ensures.fit
-    (ap (λ z. z ++ post_of 0 (length c.args.terms.now - 0) c.args.self.now.terms) c.copy_from_slice.ensures.after) c.enroll.ensures.slots (λ v. refl)
+    let all : length c.args.terms.now - 0 ≡ length c.args.terms.now = omega arith in
+    let over = ap (λ z. z ++ post_of 0 (length c.args.terms.now - 0) c.args.self.now.terms) c.copy_from_slice.ensures.after ∙ ap (λ n. c.args.terms.now ++ drop n c.args.self.now.terms) all in
+    let slots = c.enroll.ensures.slots ∙ ap (λ n. map new_slot c.args.register.now ++ drop n c.args.self.now.slots) (sym (length-map c.args.register.now new_slot)) in
+    made_granted c.args.lot c.args.terms.now c.args.register.now c.args.self.now _ _ _ short lawful c.ranges.lot.fits c.enroll.ensures.fit over slots refl refl (λ v. refl)
