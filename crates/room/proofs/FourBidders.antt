@@ -12,7 +12,7 @@ use Rattle.room.specs.Calls.{Lodging, Closing, Met, answer_to, holding}
 use Rattle.room.specs.Making.{Made}
 use Rattle.room.specs.Runs.{met, none, more, History, sale, envelopes, Stands}
 use Rattle.room.specs.Promise.{Sealed}
-use Rattle.room.specs.Examples.{RoomOfLot17}
+use Rattle.room.specs.Lot17.{RoomOfLot17}
 use Rattle.room.specs.declared.register.RegisterEntry.{RegisterEntry}
 use Rattle.room.specs.declared.slots.Phase.{Phase}
 use Rattle.room.specs.declared.slots.Phase.TheVariants.{Open, Closed}
@@ -186,11 +186,13 @@ module _ (v : Variant) where
   room_of_lot_17 = record {
     x = of_lot_17;
     of_the_variant = refl;
-    x_closed = refl;
-    lot = refl;
-    bidders = refl;
-    bidder_3 = stands 3 1 250000 sealed_3 (kept_is_bid v 3 1 250000 (replicate 16 0) (omega arith)) refl;
-    bidder_5 = stands 5 2 250000 sealed_5 (kept_is_bid v 5 2 250000 (replicate 16 0) (omega arith)) refl;
-    bidder_8 = stands 8 3 310000 sealed_8 (kept_is_bid v 8 3 310000 (replicate 16 0) (omega arith)) refl;
-    bidder_9 = stands 9 4 0 sealed_9 (kept_is_bid v 9 4 0 (replicate 16 0) (omega arith)) refl;
+    of_lot_17 = record {
+      is_closed = refl;
+      lot = refl;
+      bidders = refl;
+      bidder_3 = stands 3 1 250000 sealed_3 (kept_is_bid v 3 1 250000 (replicate 16 0) (omega arith)) refl;
+      bidder_5 = stands 5 2 250000 sealed_5 (kept_is_bid v 5 2 250000 (replicate 16 0) (omega arith)) refl;
+      bidder_8 = stands 8 3 310000 sealed_8 (kept_is_bid v 8 3 310000 (replicate 16 0) (omega arith)) refl;
+      bidder_9 = stands 9 4 0 sealed_9 (kept_is_bid v 9 4 0 (replicate 16 0) (omega arith)) refl;
+    };
   }

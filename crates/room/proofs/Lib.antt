@@ -22,4 +22,5 @@ pub mod OneBidder
 pub mod FourBidders
 pub mod Occurring
 pub mod Whole
-pub mod Worked
+pub mod Lot17
+pub mod CallLaws

@@ -10,4 +10,5 @@ pub mod Making
 pub mod Opening
 pub mod Runs
 pub mod Promise
-pub mod Examples
+pub mod CallLaws
+pub mod Lot17

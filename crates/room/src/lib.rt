@@ -23,4 +23,4 @@ pub use register::RegisterEntry;
 pub use room::Room;
 pub use sheet::SheetEntry;
 pub use state::{MOST_BIDDERS, RoomState};
-pub use theorems::{promise_stands, worked_examples_stand};
+pub use theorems::{call_laws_stand, page_of_lot_17_stands, promise_stands};

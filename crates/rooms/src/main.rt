@@ -11,7 +11,8 @@ use circuit::Circuit;
 use engine::Engine;
 use holding::{hold_again, hold_sale};
 use interleaved::Interleaved;
-use room::{RoomState, promise_stands, worked_examples_stand};
+use room::{RoomState, call_laws_stand, page_of_lot_17_stands, promise_stands};
+use worked::worked_examples_stand;
 
 // Two sales of one engine in one place: the second makes the room anew.
 fn run_engine<E: Engine + Copy>(rt: &HostRuntime, engine: E) -> anyhow::Result<()> {
@@ -23,6 +24,8 @@ fn run_engine<E: Engine + Copy>(rt: &HostRuntime, engine: E) -> anyhow::Result<(
 
 fn run(rt: &HostRuntime) -> anyhow::Result<()> {
     promise_stands();
+    call_laws_stand();
+    page_of_lot_17_stands();
     worked_examples_stand();
     run_engine(rt, Circuit::Dumbo)?;
     run_engine(rt, Circuit::Jumbo)?;
