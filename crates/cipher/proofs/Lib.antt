@@ -1,11 +1,11 @@
 pub mod Bytes
-pub mod XorLaws
-pub mod StreamLaws
-pub mod MaskLaws
-pub mod PartLaws
-pub mod SumLaws
-pub mod GroupLaws
-pub mod RoomLaws
-pub mod TagLaws
-pub mod AnswerLaws
+mod XorLaws
+mod StreamLaws
+mod MaskLaws
+mod PartLaws
+mod SumLaws
+mod GroupLaws
+mod RoomLaws
+mod TagLaws
+mod AnswerLaws
 pub mod Laws

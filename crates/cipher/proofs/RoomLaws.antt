@@ -12,7 +12,7 @@ use Rattle.engine.specs.declared.variants.Variant.TheVariants.{Dumbo, Jumbo, Del
 use Rattle.engine.specs.Permutation.{block_size, permutation, each}
 use Rattle.engine.specs.Calls.{one_after, four_after}
 use Rattle.engine.proofs.Laws.{permutation_length}
-use Rattle.engine.proofs.Granted.{replaced_granted}
+use Rattle.engine.proofs.CallLaws.{replaced_granted}
 use Rattle.cipher.specs.Blocks.{padded, part, parts, xored, stream, summed}
 use Rattle.cipher.specs.Groups.{held}
 use Rattle.std.proofs.lemmas.Nat.{mul-le}

@@ -34,7 +34,6 @@ fn add_blocks(sum: &mut Block, n: usize, blocks: &[u8])
     }
 }
 
-// `granted`: a fault is passed up by `?`, though none ever comes, as said of `Keyed`.
 impl<'e, E: Engine> Keyed<'e, E> {
     // Xors the first four parts of the bytes and 01, or as many as there are, enciphered from the running mask on, into the sum, and
     // steps the mask past four.

@@ -14,9 +14,9 @@ use crate::xor::equal;
 use big_endian::{number_of, put_number};
 use engine::{Engine, Plain, Variant};
 
-// A received text whose tag was found right, with the variant, key and nonce of its check. Only `check` makes one. It
-// moves, and cannot be let go: it is opened, or given up for the sealed text. By a rule of the project it holds key and nonce as plain
-// numbers and no array.
+/// A received text whose tag was found right: the sealed text, borrowed, with the variant of its check, and the key (16 bytes) and the
+/// nonce (12 bytes) of it as numbers, highest byte first. Only `check` makes one. It moves, and cannot be let go: it is opened, or given
+/// up for the sealed text.
 pub struct Checked<'a> {
     sealed: &'a [u8],
     variant: Variant,
@@ -24,8 +24,8 @@ pub struct Checked<'a> {
     nonce: u128,
 }
 
-// Checks the tag of a received text. The parameters are those of the mode, each lent by itself, since a struct of them would be
-// written for one call.
+/// Checks the tag of a received text: of at most 65,536 bytes, under a key of 16 bytes, a nonce of 12 and associated data of at most
+/// 65,536. Errors: a wrong size (1 to 5), then a wrong tag (7).
 pub fn check<'a, E: Engine>(
     engine: &E,
     key: &[u8],
@@ -70,7 +70,7 @@ impl<'e, E: Engine> Keyed<'e, E> {
 }
 
 impl<'a> Checked<'a> {
-    // Whether an opening into this place would be refused. The text stays checked.
+    /// Whether an opening into this place would be refused (6, for another length than the text's). The text stays checked.
     pub fn refuses(&self, out: &[u8]) -> Result<(), CipherFault>
         ensures { result ≡ open_answer (text_of self.now) out.now }
     {
@@ -80,7 +80,8 @@ impl<'a> Checked<'a> {
         Ok(())
     }
 
-    // Opens the text and uses it up. A refused opening leaves the place as it was and gives the checked text back.
+    /// Opens the text into a place of its length, and uses it up. A refused opening (6) leaves the place as it was and gives the checked
+    /// text back.
     pub fn open<E: Engine>(
         self,
         engine: &E,
@@ -104,7 +105,7 @@ impl<'a> Checked<'a> {
         }
     }
 
-    // Gives up the check for the sealed text.
+    /// Gives up the check for the sealed text.
     pub fn into_sealed(self) -> &'a [u8]
         ensures { result.now ≡ self.entry.sealed.now }
     {
@@ -117,8 +118,7 @@ impl<'a> Checked<'a> {
         bytes
     }
 
-    // Writes what the text opens to. By a rule of the project it is opened with its own variant's plain engine where the engine lent is of
-    // another variant.
+    // Writes what the text opens to: by the engine lent, or by the plain engine of the text's variant where that one is of another.
     fn open_into<E: Engine>(&self, engine: &E, out: &mut [u8]) -> Result<(), CipherFault>
         ensures answer { result ≡ open_answer (text_of self.now) out.old }
         ensures out { out.new ≡ left result (opened (text_of self.now)) out.old }
@@ -135,7 +135,7 @@ impl<'a> Checked<'a> {
         )
     }
 
-    // Writes what the text opens to, by an engine of its variant. `granted`: a fault is passed up by `?`, though none ever comes, as said of `Keyed`.
+    // Writes what the text opens to, by an engine of its variant.
     fn open_by<E: Engine>(&self, engine: &E, out: &mut [u8]) -> Result<(), CipherFault>
         requires variant { E.kind engine.now ≡ self.now.variant }
         requires out { length out.old ≡ length self.now.sealed.now }

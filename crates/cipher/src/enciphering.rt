@@ -18,7 +18,8 @@ pub(crate) struct Keyed<'e, E: Engine> {
     pub(crate) first: Block,
 }
 
-// Each method here and in the other modules says `granted`: by a rule of the project an engine's fault is passed up by `?`, though none ever comes.
+// An engine's fault is passed up by `?`, held whole, as every fault of a lower layer is. `granted` says here and in the other modules that none
+// comes.
 impl<'e, E: Engine> Keyed<'e, E> {
     // Makes the first mask of a key.
     pub(crate) fn new(engine: &'e E, key: &[u8; KEY_BYTES]) -> Result<Keyed<'e, E>, CipherFault>
@@ -43,7 +44,7 @@ impl<'e, E: Engine> Keyed<'e, E> {
     }
 
     // The same with each of four neighbouring blocks under the running mask and the next three, and steps the running one past them.
-    // There are two, since an engine has a call for one block and one for four, and a text of one block should not pay for four.
+    // A text of one block does not pay for four.
     pub(crate) fn encipher_four(
         &self,
         running: &mut Block,

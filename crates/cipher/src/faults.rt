@@ -1,4 +1,4 @@
-// Why the cipher refuses.
+// The faults of the cipher.
 ghost use Rattle.std.specs.Prelude.{◌≡◌};
 ghost use Rattle.cipher.specs.Faults.{fault_number, fault_layer, fault_place};
 ghost use Rattle.cipher.specs.declared.faults.CipherFault.TheVariants.{Engine as by_engine};
@@ -6,23 +6,24 @@ ghost use Rattle.cipher.specs.declared.faults.CipherFault.TheVariants.{Engine as
 use engine::EngineFault;
 use fault::{Fault, Layer, Place};
 
+/// Why the sealing, checking or opening of a text is refused.
 #[derive(Clone, Copy, PartialEq, Eq, Debug)]
 pub enum CipherFault {
-    // The key is not 16 bytes long.
+    /// The key is not 16 bytes long.
     KeyLength,
-    // The nonce is not 12 bytes long.
+    /// The nonce is not 12 bytes long.
     NonceLength,
-    // The associated data has more than 65,536 bytes.
+    /// The associated data has more than 65,536 bytes.
     AssociatedDataLength,
-    // The text has more than 65,536 bytes.
+    /// The text has more than 65,536 bytes.
     TextLength,
-    // The tag, or the place for it, has another length than the variant's tags.
+    /// The tag, or the place for it, has another length than the variant's tags.
     TagLength,
-    // The output has another length than the text.
+    /// The output has another length than the text.
     OutputLength,
-    // The tag is not that of the text.
+    /// The tag is not that of the text.
     WrongTag,
-    // An engine refused a call.
+    /// An engine refused a call.
     Engine(EngineFault),
 }
 
@@ -55,7 +56,7 @@ impl Fault for CipherFault {
     }
 }
 
-// By a rule of the project each layer above has such a `From`, for `?` to pass a fault of the engine up, held whole.
+// For `?`, which passes an engine's fault up, held whole.
 impl From<EngineFault> for CipherFault {
     ghost from_gives = { λ f r. r ≡ by_engine f };
 

@@ -1,4 +1,4 @@
-// The cipher layer: sealing, checking and opening of texts by the Elephant mode, over any engine.
+//! The cipher layer: sealing, checking and opening of texts by the Elephant mode, over any engine.
 #![tactic(auto)]
 
 mod absorbing;

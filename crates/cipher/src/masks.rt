@@ -1,7 +1,5 @@
 // The masks: phi1 and phi2 of a block, and four masks side by side, each stepped from the one before.
-// Variant and block go along as two and not as one struct: a block is bytes, of which the variant says how many count, and the variant is
-// the engine's. So do a running mask and j, and a running mask and the nonce: a struct of both would be lent to be stepped, and each contract
-// would have to say besides that j, or the nonce, stays. Each says how far the mask is stepped, since the next part or group goes on from there.
+// A block is bytes, of which the variant says how many count.
 ghost use Rattle.std.specs.Prelude.{◌≡◌, ℕ, ◌*◌, take};
 ghost use Rattle.engine.specs.Permutation.{block_size};
 ghost use Rattle.cipher.specs.Blocks.{repeated, stream};
@@ -60,14 +58,13 @@ pub(crate) fn mask(variant: Variant, running: &Block, j: usize) -> Block
     block
 }
 
-// Writes four masks side by side, from the running one on, and steps the running one past them. It stands beside `mask` as
-// `encipher_four` does beside `encipher`, where the reason is.
+// Writes four masks side by side, from the running one on, and steps the running one past them.
 pub(crate) fn four_masks(variant: Variant, running: &mut Block, j: usize, masks: &mut Blocks)
     ensures masks { take (4 * block_size variant) masks.new ≡ stream (λ q. mask_of variant (held variant running.old) q j) 4 0 }
     ensures running { held variant running.new ≡ repeated (first_phi variant) 4 (held variant running.old) }
 {
     let n = variant.block_bytes();
-    // By the place, since a proof knows no byte of the masks after a loop over `chunks_exact_mut`.
+    // By the place: what `chunks_exact_mut` wrote is not known after the loop.
     for q in 0..4 {
         masks[q * n..q * n + n].copy_from_slice(&mask(variant, running, j)[0..n]);
         phi1(variant, running);

@@ -9,8 +9,9 @@ use crate::faults::CipherFault;
 use crate::sizes::{MOST_BLOCK_BYTES, check_sizes};
 use engine::Engine;
 
-// Seals a text: writes the sealed text and its tag. After a refusal both places are as they were. The parameters are those of the
-// mode, each lent by itself, since a struct of them would be written for one call.
+/// Seals a text of at most 65,536 bytes, under a key of 16 bytes, a nonce of 12 and associated data of at most 65,536: writes the sealed
+/// text, as long as the text, and its tag, as long as the variant's tags. Errors: a wrong size (1 to 6); then both places are as they were.
+/// Source: Elephant, version 2.
 pub fn seal<E: Engine>(
     engine: &E,
     key: &[u8],

@@ -8,7 +8,7 @@ ghost use Rattle.cipher.specs.Views.{lawful_seen, key_seen};
 use crate::faults::CipherFault;
 use engine::Variant;
 
-// The bytes of a key.
+/// The bytes of a key.
 pub const KEY_BYTES: usize = 16;
 
 pub(crate) const NONCE_BYTES: usize = 12;
@@ -19,13 +19,11 @@ pub(crate) const MOST_BLOCK_BYTES: usize = 25;
 
 pub(crate) const MOST_GROUP_BYTES: usize = 4 * MOST_BLOCK_BYTES;
 
-// The bytes of the longest tag of all variants.
+/// The bytes of the longest tag of all variants.
 pub const MOST_TAG_BYTES: usize = 16;
 
-// Room for a block of any variant, and for four neighbouring ones. The first bytes hold them, and the others say nothing: how long an
-// engine's blocks are is known only when it runs. They are arrays with room for the longest, which ask nothing of their callers. The kit's
-// `arrayvec`, which has no heap either, is no plainer: tried with phi1, each index and each push stays open until the function asks that the
-// vector be as long as the engine's blocks, and so would each function that takes a block.
+// Room for a block of any variant, and for four neighbouring ones: how long an engine's blocks are is known only when it runs. The first bytes
+// hold them, and the others say nothing.
 pub(crate) type Block = [u8; MOST_BLOCK_BYTES];
 
 pub(crate) type Blocks = [u8; MOST_GROUP_BYTES];
@@ -37,7 +35,7 @@ pub(crate) struct Lawful<'a> {
     pub(crate) nonce: &'a [u8; NONCE_BYTES],
 }
 
-// The bytes of a tag.
+/// The bytes of a tag.
 pub fn tag_bytes(variant: Variant) -> usize
     ensures { result ≡ tag_size variant }
 {
@@ -55,7 +53,7 @@ fn sized_key(key: &[u8]) -> Result<&[u8; KEY_BYTES], CipherFault>
     key.as_array().ok_or(CipherFault::KeyLength)
 }
 
-// The check of a key.
+/// The check of a key.
 pub fn check_key(key: &[u8]) -> Result<(), CipherFault>
     ensures { result ≡ key_answer key.now }
 {

@@ -19,13 +19,12 @@ fn copies(block: &[u8], blocks: &mut Blocks)
     ensures { take (4 * length block.now) blocks.new ≡ stream (λ _. block.now) 4 0 }
 {
     let n = block.len();
-    // By the place, since a proof knows no byte of the blocks after a loop over `chunks_exact_mut`.
+    // By the place: what `chunks_exact_mut` wrote is not known after the loop.
     for q in 0..4 {
         blocks[q * n..q * n + n].copy_from_slice(block);
     }
 }
 
-// `granted`: a fault is passed up by `?`, though none ever comes, as said of `Keyed`.
 impl<'e, E: Engine> Keyed<'e, E> {
     // Writes a block of the key stream, under the running mask, and steps that on.
     fn key_block(
@@ -45,8 +44,7 @@ impl<'e, E: Engine> Keyed<'e, E> {
         Ok(())
     }
 
-    // Writes four blocks of the key stream, from the running mask on, and steps the mask past them. It stands beside `key_block` as
-    // `encipher_four` does beside `encipher`, where the reason is.
+    // Writes four blocks of the key stream, from the running mask on, and steps the mask past them.
     fn key_blocks(
         &self,
         nonce: &Block,
@@ -61,8 +59,7 @@ impl<'e, E: Engine> Keyed<'e, E> {
         self.encipher_four(running, STREAM_TURNS, blocks)
     }
 
-    // Writes a part of at most four blocks under the key stream: four blocks of it, or one where that is enough. Of a slice no type says its length:
-    // so the place's is asked for, here and where a whole text is streamed or opened.
+    // Writes a part of at most four blocks under the key stream: four blocks of it, or one where that is enough.
     fn stream_group(
         &self,
         nonce: &Block,
@@ -103,7 +100,7 @@ impl<'e, E: Engine> Keyed<'e, E> {
         let mut nonce_block = [0; MOST_BLOCK_BYTES];
         nonce_block[0..NONCE_BYTES].copy_from_slice(nonce);
         let mut running = self.first;
-        // The place is counted, since a proof knows no byte of `out` after a loop over `chunks` zipped with `chunks_mut`.
+        // By the place: what `chunks_mut` wrote is not known after the loop.
         let mut at = 0;
         for part in text.chunks(4 * self.engine.variant().block_bytes()) {
             let end = at + part.len();

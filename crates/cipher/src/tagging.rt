@@ -20,7 +20,6 @@ fn start_sum(variant: Variant, nonce: &[u8; NONCE_BYTES], associated: &[u8], sum
     load(associated, &mut sum[NONCE_BYTES..variant.block_bytes()]);
 }
 
-// `granted`: a fault is passed up by `?`, though none ever comes, as said of `Keyed`.
 impl<'e, E: Engine> Keyed<'e, E> {
     // Writes the sum after nonce and associated data. The other parts of that string are those of the data after part 0, and 01.
     fn sum_associated(

@@ -8,7 +8,7 @@ pub(crate) fn xor_into(target: &mut [u8], source: &[u8])
     ensures { target.new ≡ xored target.old source.now }
 {
     let n = target.len().min(source.len());
-    // By the place, since a proof knows no byte of target after a loop over `target.iter_mut().zip(source)`.
+    // By the place: what `iter_mut().zip` wrote is not known after the loop.
     for (k, byte) in source[0..n].iter().enumerate() {
         target[k] ^= *byte;
     }

@@ -1,6 +1,6 @@
 -- The circuit does what the table says.
 use Rattle.std.proofs.Common.{◌≡◌, Bool, true, false, not, ◌&&◌, ◌||◌, refl, ap, ◌∙◌, ap₂}
-use Rattle.engine.specs.Bits.{differs}
+use Rattle.binary.specs.Bits.{differs}
 use Rattle.circuit.specs.Planes.{entry}
 
 -- the bit b is x

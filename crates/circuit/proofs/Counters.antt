@@ -4,9 +4,9 @@ use Rattle.std.specs.Int.{reverse_bits_onto}
 use Rattle.std.proofs.lemmas.List.FromFn.{get_or-map-range_with_len}
 use Rattle.std.proofs.lemmas.Nat.{div_below, mod_below, div-add-mod'}
 use Rattle.std.proofs.lemmas.Bool.{cases_lt, lt-ltb, le-ltb}
-use Rattle.engine.specs.Bits.{bit, differs}
+use Rattle.binary.specs.Bits.{bit, differs}
 use Rattle.engine.specs.Spongent.{added, counted, count}
-use Rattle.engine.proofs.Rotations.{bit_shl, bit_shl_low, bit_mod, bit_past}
+use Rattle.binary.proofs.RotationLaws.{bit_shl, bit_shl_low, bit_mod, bit_past}
 use Rattle.circuit.specs.Planes.{Bits, word_bit, Holds}
 use Rattle.circuit.proofs.Decide.{all_of, each_of}
 use Rattle.circuit.proofs.Fours.{by_four}

@@ -2,7 +2,7 @@
 use Rattle.std.proofs.Common.{◌≡◌, ℕ, zero, suc, ◌+◌, ◌*◌, ◌/◌, ◌%◌, ◌<◌, ◌≤◌, Bool, false, List, length, get_or, sym, refl, ap, ◌∙◌, ap₂, zero-add, arith}
 use Rattle.std.proofs.lemmas.List.FromFn.{get_or-map-range_with_len, length-map-range_with_len}
 use Rattle.std.proofs.lemmas.Nat.{div_below, mod_below}
-use Rattle.engine.specs.Bits.{bit, value, bits, bit_of}
+use Rattle.binary.specs.Bits.{bit, value, bits, bit_of}
 use Rattle.engine.specs.Spongent.{table, counted, count, substituted, substitute, moved, move, round, after, counter}
 use Rattle.circuit.specs.Planes.{Bits, word_bit, entry, Substituted, Gathered, InRows, Unzipped, Holds}
 

@@ -1,10 +1,10 @@
-pub mod Decide
-pub mod Fours
-pub mod Shifts
-pub mod Circuits
-pub mod Swaps
-pub mod Sources
-pub mod Layers
-pub mod Counters
-pub mod Octets
-pub mod Parts
+mod Decide
+mod Fours
+mod Shifts
+mod Circuits
+mod Swaps
+mod Sources
+mod Layers
+mod Counters
+mod Octets
+mod Parts

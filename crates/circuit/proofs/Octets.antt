@@ -5,11 +5,11 @@ use Rattle.std.specs.Int.{from_le_bytes, to_le_bytes}
 use Rattle.std.proofs.lemmas.Nat.{le_bytes_8, div_below, mod_below, mod-pow-add, div-mul-add, mod-mul-add, div-add-mod'}
 use Rattle.std.proofs.lemmas.List.FromFn.{get_or-map-range_with_len}
 use Rattle.std.proofs.lemmas.Bool.{cases_lt, lt-ltb, le-ltb}
-use Rattle.engine.specs.Bits.{bit, one, word, bit_of, bits, block, byte_of, made}
-use Rattle.engine.proofs.BitLaws.{bit_of_or, bit_suc}
-use Rattle.engine.proofs.Rotations.{bit_shr, bit_mod, bit_past}
-use Rattle.engine.proofs.Numbers.{word_ext}
-use Rattle.engine.proofs.Filling.{made_ext}
+use Rattle.binary.specs.Bits.{bit, one, word, bit_of, bits, block, byte_of, made}
+use Rattle.binary.proofs.BitLaws.{bit_of_or, bit_suc}
+use Rattle.binary.proofs.RotationLaws.{bit_shr, bit_mod, bit_past}
+use Rattle.binary.proofs.NumberLaws.{word_ext}
+use Rattle.binary.proofs.MadeLaws.{made_ext}
 use Rattle.circuit.specs.Planes.{Bits, one_at, word_bit, block_bit, Holds}
 use Rattle.circuit.specs.Packed.{packed_bit}
 use Rattle.circuit.proofs.Fours.{by_four}

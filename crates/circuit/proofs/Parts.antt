@@ -2,11 +2,11 @@
 use Rattle.std.proofs.Common.{◌≡◌, ℕ, ◌+◌, ◌*◌, ◌<◌, ◌≤◌, Bool, true, false, cond, eqb, List, length, take, drop, sym, refl, ap, ◌∙◌, add-one, one-mul, suc-mul, mul-le-mul_right, arith}
 use Rattle.std.proofs.lemmas.List.{length-append, append-nil, length-take-le, length-drop, drop_at, take_all}
 use Rattle.std.proofs.lemmas.Bool.{eqb-true}
-use Rattle.engine.specs.Bits.{bits, block}
+use Rattle.binary.specs.Bits.{bits, block}
 use Rattle.engine.specs.Calls.{replaced}
 use Rattle.engine.specs.Permutation.{each}
 use Rattle.engine.specs.Spongent.{after, spongent}
-use Rattle.engine.proofs.Blocks.{Done}
+use Rattle.engine.proofs.BlockLaws.{Done}
 
 -- block i of several
 pub within : (n i blocks b : ℕ) → i < blocks → b ≡ blocks * n → i * n + n ≤ b

@@ -4,8 +4,8 @@ use lib.Lanes.{zip2}
 use Rattle.std.proofs.lemmas.Simd.{get_or-zip2}
 use Rattle.std.proofs.lemmas.List.{get_or-map}
 use Rattle.std.proofs.lemmas.Bool.{cases_lt, lt-ltb, le-ltb}
-use Rattle.engine.specs.Bits.{bit}
-use Rattle.engine.proofs.Rotations.{bit_shl, bit_shl_low, bit_shr, bit_mod, bit_past}
+use Rattle.binary.specs.Bits.{bit}
+use Rattle.binary.proofs.RotationLaws.{bit_shl, bit_shl_low, bit_shr, bit_mod, bit_past}
 
 -- a word moved up by n places, at a width of w
 pub bit_up : (w x n k : ℕ) → k < w → bit ((x * 2 ^ n) % 2 ^ w) k ≡ cond (ltb k n) false (bit x (k - n))

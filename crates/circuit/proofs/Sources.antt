@@ -2,7 +2,7 @@
 use Rattle.std.proofs.Common.{◌≡◌, ℕ, ◌+◌, ◌-◌, ◌*◌, ◌/◌, ◌%◌, ◌<◌, ◌≤◌, Bool, true, false, cond, ◌&&◌, ◌||◌, eqb, ltb, List, [], ◌∷◌, get_or, sym, refl, ap, ◌∙◌, ap₂, ⊎_elim, arith, lit≤}
 use Rattle.std.proofs.lemmas.Nat.{mod_below}
 use Rattle.std.proofs.lemmas.Bool.{cases_lt, lt-ltb, le-ltb, eqb-true, false≢true}
-use Rattle.engine.specs.Bits.{bit}
+use Rattle.binary.specs.Bits.{bit}
 use Rattle.circuit.specs.Planes.{Bits, word_bit, InRows, Unzipped}
 use Rattle.circuit.specs.Moves.{Masked, Crossed}
 use Rattle.circuit.proofs.Decide.{all_of, each_of}

@@ -1,7 +1,7 @@
 -- The bits of two words after some of them have changed places.
 use Rattle.std.proofs.Common.{◌≡◌, ℕ, ◌+◌, ◌-◌, ◌<◌, ◌≤◌, Bool, true, false, cond, ◌&&◌, ltb, sym, refl, ap, ◌∙◌, ⊎_elim, arith}
 use Rattle.std.proofs.lemmas.Bool.{cases_lt, lt-ltb, le-ltb}
-use Rattle.engine.specs.Bits.{bit, differs}
+use Rattle.binary.specs.Bits.{bit, differs}
 use Rattle.circuit.specs.Planes.{Bits}
 
 nothing : (b : Bool) → differs b false ≡ b

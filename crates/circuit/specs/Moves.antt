@@ -1,6 +1,6 @@
 -- What the moves of bits in words do: the terms of the contracts between the functions of this crate.
 use Rattle.std.specs.Prelude.{◌≡◌, ℕ, ◌+◌, ◌-◌, ◌<◌, false, cond, ◌&&◌, nat_lt}
-use Rattle.engine.specs.Bits.{bit}
+use Rattle.binary.specs.Bits.{bit}
 use Rattle.circuit.specs.Planes.{Bits}
 
 -- r has the bits of x where the mask has ones, and zeros elsewhere.

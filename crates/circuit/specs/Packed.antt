@@ -1,6 +1,6 @@
 -- A block in words that are numbers, one after another.
 use Rattle.std.specs.Prelude.{ℕ, ◌/◌, ◌%◌, Bool, List, slice_index}
-use Rattle.engine.specs.Bits.{bit}
+use Rattle.binary.specs.Bits.{bit}
 
 -- Bit j of a block in words of m bits.
 abbrev pub packed_bit : ℕ → List ℕ → ℕ → Bool

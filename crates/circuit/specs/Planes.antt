@@ -1,6 +1,6 @@
 -- Blocks in words, and what the steps of a round do to them: the terms of the contracts between the functions of this crate.
 use Rattle.std.specs.Prelude.{◌≡◌, ℕ, ◌+◌, ◌*◌, ◌/◌, ◌%◌, ◌<◌, ◌≤◌, Bool, false, List, [], ◌∷◌, take, drop, slice_index, slice_index_or}
-use Rattle.engine.specs.Bits.{bit, one}
+use Rattle.binary.specs.Bits.{bit, one}
 use Rattle.engine.specs.Spongent.{table}
 use Rattle.circuit.specs.declared.planes.Planes.{Planes}
 

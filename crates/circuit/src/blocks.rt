@@ -31,7 +31,7 @@ pub(crate) fn permute<S: Spongent, W: Word>(blocks: &mut [u8])
     let n = S::WIDTH as usize / 2;
     let p = load::<S, W>(blocks);
     let r = all_rounds::<S, W>(p);
-    // Indexed, since a proof knows nothing of what was written in the chunks of chunks_exact_mut.
+    // By the place: what `chunks_exact_mut` wrote is not known after the loop.
     for i in 0..W::BLOCKS {
         store::<S>(lane(r, i), &mut blocks[i * n..i * n + n]);
     }

@@ -1,6 +1,6 @@
 // The bytes of blocks in words, and back.
 ghost use Rattle.std.specs.Prelude.{◌≡◌, ℕ, ◌+◌, ◌*◌, ◌/◌, ◌%◌, ◌<◌, ◌≤◌, Bool, List, length};
-ghost use Rattle.engine.specs.Bits.{bit, bit_of, bits, block, word};
+ghost use Rattle.binary.specs.Bits.{bit, bit_of, bits, block, word};
 ghost use Rattle.circuit.specs.Planes.{of_block, one_at, part, Holds};
 ghost use Rattle.circuit.specs.Packed.{packed_bit};
 
@@ -45,7 +45,7 @@ fn quarters<S: Spongent, W: Word>(blocks: &[u8], t: usize) -> W
     W::from_fn(|i| quarter::<S>(blocks, i, t))
 }
 
-// The blocks in words. That they are so long is asked for where they are cut: of a slice no type says it.
+// The blocks in words.
 pub(crate) fn load<S: Spongent, W: Word>(blocks: &[u8]) -> Planes<W>
     requires { length blocks.now ≡ W.BLOCKS * (S.WIDTH / 2) }
     ensures { (i : ℕ) → i < W.BLOCKS → Holds S.WIDTH (of_block W.at result i) (bits (part (S.WIDTH / 2) i blocks.now)) }

@@ -10,10 +10,12 @@ use crate::words::Word;
 use engine::{Engine, EngineFault, Variant};
 use std::simd::prelude::*;
 
-// The variants that have a circuit engine: those whose permutation is Spongent.
+/// The fast engine of a variant whose permutation is Spongent.
 #[derive(Clone, Copy, PartialEq, Eq, Debug)]
 pub enum Circuit {
+    /// The engine of Dumbo.
     Dumbo,
+    /// The engine of Jumbo.
     Jumbo,
 }
 

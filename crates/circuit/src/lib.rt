@@ -1,4 +1,4 @@
-// The circuit engine: a fast engine for Dumbo and Jumbo, without tables, branches or places that depend on what is in a block.
+//! The circuit engine: a fast engine for Dumbo and Jumbo, without tables, branches or places that depend on what is in a block.
 #![tactic(auto)]
 
 mod blocks;

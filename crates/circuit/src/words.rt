@@ -1,7 +1,7 @@
 // Words of 64 bits, of one block or of four blocks side by side, and what the gates and shifts do to their bits.
 ghost use Rattle.std.specs.Prelude.{◌≡◌, ℕ, ◌+◌, ◌-◌, ◌<◌, ◌≤◌, Bool, false, not, ◌&&◌, ◌||◌, if◌then◌else◌, nat_lt};
 ghost use Rattle.std.proofs.Common.{lit≤};
-ghost use Rattle.engine.specs.Bits.{bit, differs};
+ghost use Rattle.binary.specs.Bits.{bit, differs};
 ghost use Rattle.circuit.specs.Planes.{one_at, four_at};
 
 use std::simd::prelude::*;
@@ -43,7 +43,7 @@ pub(crate) trait Word: Copy {
     fn not(self) -> Self
         ensures { (i k : ℕ) → k < 64 → at result i k ≡ not (at self i k) };
 
-    // Each bit n places up. The amount is a plain number below 64, as of the operator: all amounts are literals, so no type is made to hold them.
+    // Each bit n places up; n is below 64.
     fn up(self, n: u32) -> Self
         requires { n < 64 }
         ensures { (i k : ℕ) → k < 64 → at result i k ≡ (if nat_lt k n then false else at self i (k - n)) };

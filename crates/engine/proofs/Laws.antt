@@ -3,16 +3,16 @@ use Rattle.std.proofs.Common.{◌≡◌, ℕ, ◌*◌, ◌<◌, Bool, false, Lis
 use Rattle.std.proofs.lemmas.List.FromFn.{length-map-range_with_len, get_or-map-range_with_len}
 use Rattle.std.proofs.lemmas.List.{get_or_past}
 use Rattle.std.proofs.lemmas.Bool.{cases_lt}
-use Rattle.engine.specs.Bits.{bits, block, byte_of, made}
+use Rattle.binary.specs.Bits.{bits, block, byte_of, made}
 use Rattle.engine.specs.Spongent.{after, spongent}
 use Rattle.engine.specs.Keccak.{after as keccak_after, keccak, constants}
 use Rattle.engine.specs.Permutation.{permutation}
 use Rattle.engine.specs.Theorems.{Laws, constant}
 use Rattle.engine.specs.declared.variants.Variant.{Variant}
 use Rattle.engine.specs.declared.variants.Variant.TheVariants.{Dumbo, Jumbo, Delirium}
-use Rattle.engine.proofs.Numbers.{word_lt}
+use Rattle.binary.proofs.NumberLaws.{word_lt}
 use Rattle.engine.proofs.BitMoves.{moves}
-use Rattle.engine.proofs.Granted.{granted_by_lengths}
+use Rattle.engine.proofs.CallLaws.{granted_by_lengths}
 
 pub block_length : (n : ℕ) (bs : List Bool) → length (block n bs) ≡ n
 unfolding block

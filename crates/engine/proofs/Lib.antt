@@ -1,9 +1,4 @@
-pub mod BitLaws
-pub mod Filling
-pub mod Numbers
-pub mod BitMoves
-pub mod WordBits
-pub mod Rotations
-pub mod Blocks
-pub mod Granted
+mod BitMoves
+pub mod BlockLaws
+pub mod CallLaws
 pub mod Laws

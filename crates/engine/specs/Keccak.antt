@@ -1,6 +1,6 @@
 -- Keccak-f[200], the permutation of Delirium, on the bits of a block of 25 bytes: byte 5 y + x is lane (x, y), and z counts its bits.
 use Rattle.std.specs.Prelude.{ℕ, zero, suc, ◌+◌, ◌-◌, ◌*◌, ◌/◌, ◌%◌, Bool, false, not, ◌&&◌, List, [], ◌∷◌, length, ◌==◌, slice_index, slice_index_or}
-use Rattle.engine.specs.Bits.{bit, differs, made, bits, block}
+use Rattle.binary.specs.Bits.{bit, differs, made, bits, block}
 
 -- Bit (x, y, z) of a state.
 abbrev pub a : List Bool → ℕ → ℕ → ℕ → Bool

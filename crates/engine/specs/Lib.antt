@@ -1,4 +1,3 @@
-pub mod Bits
 pub mod Spongent
 pub mod Keccak
 pub mod Permutation

@@ -1,6 +1,6 @@
 -- Spongent, the permutation of Dumbo and Jumbo, on the bits of a block of any width b.
 use Rattle.std.specs.Prelude.{ℕ, zero, suc, ◌+◌, ◌-◌, ◌*◌, ◌/◌, ◌%◌, Bool, false, cond, List, [], ◌∷◌, length, ◌==◌, nat_lt, slice_index, slice_index_or}
-use Rattle.engine.specs.Bits.{bit, one, differs, made, bits, value, block}
+use Rattle.binary.specs.Bits.{bit, one, differs, made, bits, value, block}
 
 -- The seven-bit counter moves left one place, and its new lowest bit is the exclusive or of its two highest old bits.
 unfoldable pub next : ℕ → ℕ

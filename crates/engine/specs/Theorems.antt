@@ -1,7 +1,7 @@
 -- Laws of the definitions that the public documents state in other words.
 use Rattle.std.specs.Prelude.{◌≡◌, ℕ, zero, suc, ◌+◌, ◌*◌, ◌%◌, ◌<◌, Bool, true, false, ◌↔◌, cond, List, length, bit_xor, nat_lt, slice_index, slice_index_or}
 use Rattle.fault.specs.Checks.{granted}
-use Rattle.engine.specs.Bits.{made}
+use Rattle.binary.specs.Bits.{made}
 use Rattle.engine.specs.Spongent.{place, move}
 use Rattle.engine.specs.Keccak.{constants}
 use Rattle.engine.specs.Permutation.{block_size, permutation, each}

@@ -1,6 +1,6 @@
 // The bits of a block as an array, and layers of a permutation, each given by the rule for one bit of its result.
 ghost use Rattle.std.specs.Prelude.{◌≡◌, ℕ, ◌*◌, ◌^◌, ◌<◌, ◌≤◌, Bool, List, length};
-ghost use Rattle.engine.specs.Bits.{bit, bits, block, value, made};
+ghost use Rattle.binary.specs.Bits.{bit, bits, block, value, made};
 
 use std::array;
 
@@ -24,7 +24,7 @@ pub(crate) fn number(bits: &[bool]) -> u8
     n
 }
 
-// The bits of a block. That there are eight for each byte is asked for, since the bytes are a slice, of which no type says it.
+// The bits of a block, eight for each byte.
 pub(crate) fn unpack<const BITS: usize>(block: &[u8]) -> [bool; BITS]
     requires { BITS ≡ 8 * length block.now }
     ensures { result ≡ bits block.now }
@@ -37,7 +37,7 @@ pub(crate) fn pack<const BITS: usize>(bits: &[bool; BITS], out: &mut [u8])
     requires { BITS ≡ 8 * length out.old }
     ensures { out.new ≡ block (length out.old) bits.now }
 {
-    // Each byte finds its bits by its place: of bytes written under a `zip` nothing is known afterwards but how many they are.
+    // By the place: what `zip` wrote is not known after the loop.
     let bits = &bits[..];
     for (k, byte) in out.iter_mut().enumerate() {
         *byte = number(&bits[8 * k..8 * k + 8]);
@@ -45,7 +45,7 @@ pub(crate) fn pack<const BITS: usize>(bits: &[bool; BITS], out: &mut [u8])
 }
 
 // A layer of a permutation of so many bits, by the rule that gives bit j of its result.
-pub(crate) trait Layer<const BITS: usize> {
+pub(crate) trait BitLayer<const BITS: usize> {
     ghost rule: { Self → List Bool → ℕ → Bool };
     // What the layer asks of the number of bits.
     ghost suits: { Type 0 };
@@ -57,7 +57,7 @@ pub(crate) trait Layer<const BITS: usize> {
 }
 
 // What the layer makes of the bits.
-pub(crate) fn apply<L: Layer<BITS>, const BITS: usize>(
+pub(crate) fn apply<L: BitLayer<BITS>, const BITS: usize>(
     layer: &L,
     old: &[bool; BITS],
 ) -> [bool; BITS]

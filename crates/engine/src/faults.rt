@@ -1,11 +1,12 @@
-// Why an engine refuses a call.
+// The faults of engines.
 ghost use Rattle.engine.specs.Faults.{fault_number, fault_layer, fault_place};
 
 use fault::{Fault, Layer, Place};
 
+/// Why an engine refuses a call.
 #[derive(Clone, Copy, PartialEq, Eq, Debug)]
 pub enum EngineFault {
-    // The place is not one block long, or four in a call for four.
+    /// The place is not one block long, or four in a call for four.
     BlockLength,
 }
 

@@ -2,7 +2,7 @@
 ghost use Rattle.std.specs.Prelude.{◌≡◌, ℕ, ◌*◌, ◌/◌, ◌%◌, ◌<◌, Bool, List, length};
 ghost use Rattle.engine.specs.Keccak.{a, at, column, theta_at, rho_at, pi_at, chi_at, iota_at, round, keccak};
 
-use crate::bits::{Layer, apply, get, pack, unpack};
+use crate::bits::{BitLayer, apply, get, pack, unpack};
 
 const BITS: usize = 200;
 
@@ -53,7 +53,7 @@ impl Cell {
 #[derive(Clone, Copy)]
 struct Theta;
 
-impl Layer<BITS> for Theta {
+impl BitLayer<BITS> for Theta {
     ghost rule = { λ _ s. at (theta_at s) };
 
     ghost suits = { Unit {0} };
@@ -82,7 +82,7 @@ const OFFSETS: [usize; 25] = [
 #[derive(Clone, Copy)]
 struct Rho;
 
-impl Layer<BITS> for Rho {
+impl BitLayer<BITS> for Rho {
     ghost rule = { λ _ s. at (rho_at s) };
 
     ghost suits = { Unit {0} };
@@ -102,7 +102,7 @@ impl Layer<BITS> for Rho {
 #[derive(Clone, Copy)]
 struct Pi;
 
-impl Layer<BITS> for Pi {
+impl BitLayer<BITS> for Pi {
     ghost rule = { λ _ s. at (pi_at s) };
 
     ghost suits = { Unit {0} };
@@ -121,7 +121,7 @@ impl Layer<BITS> for Pi {
 #[derive(Clone, Copy)]
 struct Chi;
 
-impl Layer<BITS> for Chi {
+impl BitLayer<BITS> for Chi {
     ghost rule = { λ _ s. at (chi_at s) };
 
     ghost suits = { Unit {0} };
@@ -147,7 +147,7 @@ struct Iota {
     constant: u8,
 }
 
-impl Layer<BITS> for Iota {
+impl BitLayer<BITS> for Iota {
     ghost rule = { λ l s. at (iota_at l.constant s) };
 
     ghost suits = { Unit {0} };

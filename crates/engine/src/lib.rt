@@ -1,4 +1,4 @@
-// The engine layer: the variants of the cipher, the permutation of a block of each, and the engines that compute it.
+//! The engine layer: the variants of the cipher, the permutation of a block of each, and the engines that compute it.
 #![tactic(auto)]
 
 mod bits;

@@ -8,8 +8,10 @@ use crate::spongent::{DUMBO_FIRST_COUNTER, JUMBO_FIRST_COUNTER};
 use crate::variants::Variant;
 use crate::{keccak, spongent};
 
+/// The plain engine of a variant. It goes bit by bit, as the definitions read, and is slow.
 #[derive(Clone, Copy)]
 pub struct Plain {
+    /// The variant that it belongs to.
     pub variant: Variant,
 }
 

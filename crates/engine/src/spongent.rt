@@ -2,18 +2,18 @@
 ghost use Rattle.std.specs.Prelude.{◌≡◌, ◌*◌, ◌%◌, ◌<◌, ◌≤◌, length};
 ghost use Rattle.engine.specs.Spongent.{added, next, counted, substituted, moved, round, spongent};
 
-use crate::bits::{Layer, apply, get, number, pack, unpack};
+use crate::bits::{BitLayer, apply, get, number, pack, unpack};
 
-// The counter of Dumbo's first round.
+/// The counter of Dumbo's first round.
 pub const DUMBO_FIRST_COUNTER: u8 = 0x75;
 
-// The counter of Jumbo's first round.
+/// The counter of Jumbo's first round.
 pub const JUMBO_FIRST_COUNTER: u8 = 0x45;
 
-// The rounds of Dumbo's permutation.
+/// The rounds of Dumbo's permutation.
 pub const DUMBO_ROUNDS: u8 = 80;
 
-// The rounds of Jumbo's permutation.
+/// The rounds of Jumbo's permutation.
 pub const JUMBO_ROUNDS: u8 = 90;
 
 const TABLE: [u8; 16] = [14, 13, 11, 0, 2, 1, 4, 15, 7, 10, 8, 5, 9, 12, 3, 6];
@@ -24,7 +24,7 @@ struct AddCounter {
     counter: u8,
 }
 
-impl<const BITS: usize> Layer<BITS> for AddCounter {
+impl<const BITS: usize> BitLayer<BITS> for AddCounter {
     ghost rule = { λ l. counted l.counter };
 
     ghost suits = { Unit {0} };
@@ -44,12 +44,11 @@ fn counter_bit(b: usize, c: u8, j: usize) -> bool
     low ^ high
 }
 
-// Substitutes each half byte. That the bits are whole half bytes is asked here and of `Move`, which rest on it, and of `one_round`, which runs them:
-// a type of states that holds the fact would be opened and made again at each layer.
+// Substitutes each half byte. The bits are whole half bytes.
 #[derive(Clone, Copy)]
 struct Substitute;
 
-impl<const BITS: usize> Layer<BITS> for Substitute {
+impl<const BITS: usize> BitLayer<BITS> for Substitute {
     ghost rule = { λ _. substituted };
 
     ghost suits = { BITS % 4 ≡ 0 };
@@ -65,7 +64,7 @@ impl<const BITS: usize> Layer<BITS> for Substitute {
 #[derive(Clone, Copy)]
 struct Move;
 
-impl<const BITS: usize> Layer<BITS> for Move {
+impl<const BITS: usize> BitLayer<BITS> for Move {
     ghost rule = { λ _. moved };
 
     ghost suits = { BITS % 4 ≡ 0 };
@@ -85,7 +84,7 @@ fn one_round<const BITS: usize>(s: &[bool; BITS], counter: u8) -> [bool; BITS]
     apply(&Move, &s)
 }
 
-// The counter of the next round.
+/// The counter of the next round.
 #[tactic(auto, unfolding(crate::specs::Spongent::next))]
 pub fn next_counter(c: u8) -> u8
     ensures { result ≡ next c }

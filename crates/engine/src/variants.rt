@@ -6,16 +6,19 @@ ghost use Rattle.engine.specs.Permutation.{block_size, rounds};
 use crate::spongent::{DUMBO_ROUNDS, JUMBO_ROUNDS};
 use std::fmt;
 
-// Dumbo and Jumbo permute blocks by Spongent, Delirium by Keccak.
+/// The variants of the cipher.
 #[derive(Clone, Copy, PartialEq, Eq, Debug)]
 pub enum Variant {
+    /// Blocks of 20 bytes, tags of 8; Spongent.
     Dumbo,
+    /// Blocks of 22 bytes, tags of 8; Spongent.
     Jumbo,
+    /// Blocks of 25 bytes, tags of 16; Keccak-f[200].
     Delirium,
 }
 
 impl Variant {
-    // The bytes of a block.
+    /// The bytes of a block.
     pub fn block_bytes(self) -> usize
         ensures { result ≡ block_size self }
     {
@@ -26,7 +29,7 @@ impl Variant {
         }
     }
 
-    // The rounds of the permutation.
+    /// The rounds of the permutation.
     pub fn rounds(self) -> u8
         ensures { result ≡ rounds self }
     {

@@ -3,9 +3,9 @@ use Rattle.std.proofs.Common.{◌≡◌, ℕ, ◌+◌, ◌-◌, ◌*◌, ◌/◌
 use lib.Bits.{bit_and, bit_xor}
 use Rattle.std.proofs.Math.Bool.{and-false}
 use Rattle.std.proofs.lemmas.Bool.{cases_lt, lt-ltb, le-ltb, ltb-true, eqb-true, false≢true, agree_below, agree_below_at}
-use Rattle.engine.specs.Bits.{bit, differs}
-use Rattle.engine.proofs.BitLaws.{bit_of_and, bit_of_xor}
-use Rattle.engine.proofs.Rotations.{bit_shr, bit_shl, bit_shl_low, bit_mod}
+use Rattle.binary.specs.Bits.{bit, differs}
+use Rattle.binary.proofs.BitLaws.{bit_of_and, bit_of_xor}
+use Rattle.binary.proofs.RotationLaws.{bit_shr, bit_shl, bit_shl_low, bit_mod}
 use Rattle.interleaved.specs.Moves.{exchanged, apart, Moved}
 
 -- a bit x added to what the exchange with a takes from it

@@ -4,16 +4,16 @@ use lib.Bits.{bit_xor}
 use Rattle.std.proofs.lemmas.List.FromFn.{get_or-map-range_with_len, length-map-range_with_len}
 use Rattle.std.proofs.lemmas.List.{append-nil, get_or-set_same, get_or-set_other, get_or-take, get_or-drop, length-take, length-drop, take_all}
 use Rattle.std.proofs.lemmas.Bool.{cases_eq, eq-eqb, ne_eqb}
-use Rattle.engine.specs.Bits.{bit, differs, made, bits, bit_of, byte_of, block}
+use Rattle.binary.specs.Bits.{bit, differs, made, bits, bit_of, byte_of, block}
 use Rattle.engine.specs.Keccak.{a, at, iota_at, theta, rho, pi, chi, iota, constants, round, after, keccak}
 use Rattle.engine.specs.Calls.{replaced}
 use Rattle.engine.specs.Permutation.{permutation, each}
 use Rattle.engine.specs.declared.variants.Variant.TheVariants.{Delirium}
-use Rattle.engine.proofs.BitLaws.{bit_word}
-use Rattle.engine.proofs.Granted.{replaced_granted}
-use Rattle.engine.proofs.Numbers.{word_lt, word_ext}
-use Rattle.engine.proofs.Filling.{made_ext}
-use Rattle.engine.proofs.WordBits.{Has, xor_has}
+use Rattle.binary.proofs.BitLaws.{bit_word}
+use Rattle.engine.proofs.CallLaws.{replaced_granted}
+use Rattle.binary.proofs.NumberLaws.{word_lt, word_ext}
+use Rattle.binary.proofs.MadeLaws.{made_ext}
+use Rattle.binary.proofs.WordLaws.{Has, xor_has}
 use Rattle.interleaved.specs.Words.{lane, words, woven, w_theta, w_rho, w_pi, w_chi, w_iota, w_round, w_after, gathered, loaded, lifted, stored_at, stored}
 use Rattle.interleaved.proofs.Lanes.{Lane, state_at, theta_lane, rho_lane, pi_lane, chi_lane}
 use Rattle.interleaved.proofs.Made.{each_made}

@@ -2,10 +2,10 @@
 use Rattle.std.proofs.Common.{◌≡◌, ℕ, ◌+◌, ◌-◌, ◌*◌, ◌/◌, ◌%◌, ◌<◌, Bool, false, List, length, get_or, sym, ap, ◌∙◌, ap₂, arith, lit<}
 use Rattle.std.proofs.lemmas.List.FromFn.{get_or-map-range_with_len, length-map-range_with_len}
 use Rattle.std.proofs.lemmas.Nat.{mod_below}
-use Rattle.engine.specs.Bits.{bit, made}
+use Rattle.binary.specs.Bits.{bit, made}
 use Rattle.engine.specs.Keccak.{a, at, column, offsets, theta_at, rho_at, pi_at, chi_at, theta, rho, pi, chi}
-use Rattle.engine.proofs.WordBits.{Has, and_has, xor_has, not_has}
-use Rattle.engine.proofs.Rotations.{turned, turned_lt, bit_turned}
+use Rattle.binary.proofs.WordLaws.{Has, and_has, xor_has, not_has}
+use Rattle.binary.proofs.RotationLaws.{turned, turned_lt, bit_turned}
 use Rattle.interleaved.specs.Words.{lane, by_lane, words, turn, w_column, w_theta, w_rho, w_pi, w_chi}
 
 -- The words hold the state s as that of block i.

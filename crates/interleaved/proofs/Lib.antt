@@ -1,6 +1,6 @@
-pub mod Lanes
-pub mod Made
-pub mod Interleaving
-pub mod Exchanges
-pub mod Weaving
-pub mod Columns
+mod Lanes
+mod Made
+mod Interleaving
+mod Exchanges
+mod Weaving
+mod Columns

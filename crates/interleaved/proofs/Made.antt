@@ -3,9 +3,9 @@ use Rattle.std.proofs.Common.{◌≡◌, ℕ, zero, suc, ◌+◌, ◌-◌, ◌*�
 use Rattle.std.proofs.lemmas.Bool.{cases_lt}
 use Rattle.std.proofs.lemmas.List.{get_or_append_left, get_or-append_right}
 use Rattle.std.proofs.lemmas.List.FromFn.{fill_by_all, get_or-map-range_with_len, length-map-range_with_len}
-use Rattle.engine.specs.Bits.{made}
+use Rattle.binary.specs.Bits.{made}
 use Rattle.engine.specs.Permutation.{each}
-use Rattle.engine.proofs.Blocks.{each_more}
+use Rattle.engine.proofs.BlockLaws.{each_more}
 
 made_append : (f : ℕ → ℕ) (n m : ℕ) → made n f ++ made m (λ p. f (n + p)) ≡ made (n + m) f
 made_append f n m =

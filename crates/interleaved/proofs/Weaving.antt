@@ -2,10 +2,10 @@
 use Rattle.std.proofs.Common.{◌≡◌, ℕ, zero, suc, ◌+◌, ◌-◌, ◌*◌, ◌/◌, ◌%◌, ◌^◌, ◌<◌, Bool, eqb, sym, refl, ap, ◌∙◌, ap₂, ⊎_elim, mod-eq_of_lt, add-one, arith}
 use Rattle.std.proofs.lemmas.Bool.{cases_lt}
 use Rattle.std.proofs.lemmas.Nat.{mod-pow-add}
-use Rattle.engine.specs.Bits.{bit, one, word}
-use Rattle.engine.proofs.BitLaws.{bit_suc}
-use Rattle.engine.proofs.Numbers.{word_ext}
-use Rattle.engine.proofs.Rotations.{bit_shr, bit_mod}
+use Rattle.binary.specs.Bits.{bit, one, word}
+use Rattle.binary.proofs.BitLaws.{bit_suc}
+use Rattle.binary.proofs.NumberLaws.{word_ext}
+use Rattle.binary.proofs.RotationLaws.{bit_shr, bit_mod}
 use Rattle.interleaved.specs.Moves.{Moved, woven_from, unwoven_from}
 use Rattle.interleaved.specs.Words.{woven, lifted}
 

@@ -1,7 +1,7 @@
 -- Which bit of a word of 32 bits comes to each place.
 -- These definitions serve the contracts inside this crate only.
 use Rattle.std.specs.Prelude.{◌≡◌, ℕ, ◌+◌, ◌-◌, ◌*◌, ◌/◌, ◌%◌, ◌<◌, Bool, cond, not, ◌||◌, nat_lt}
-use Rattle.engine.specs.Bits.{bit}
+use Rattle.binary.specs.Bits.{bit}
 
 -- The place whose bit comes to p where the bits under m change places with those k above.
 abbrev pub exchanged : ℕ → ℕ → ℕ → ℕ

@@ -1,7 +1,7 @@
 -- The layers of Keccak on 25 words of 32 bits: bit 4 z + i of word 5 y + x is bit z of lane (x, y) of block i of four.
 -- These definitions serve the contracts inside this crate only: what the engine promises is said in the engine layer's words.
 use Rattle.std.specs.Prelude.{ℕ, zero, suc, ◌+◌, ◌-◌, ◌*◌, ◌/◌, ◌%◌, ◌^◌, List, bit_and, bit_or, bit_xor, slice_index, slice_set}
-use Rattle.engine.specs.Bits.{bit, made, word}
+use Rattle.binary.specs.Bits.{bit, made, word}
 use Rattle.engine.specs.Keccak.{offsets, constants}
 
 -- Word (x, y).

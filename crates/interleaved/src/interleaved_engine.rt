@@ -8,6 +8,7 @@ use crate::rounds::all_rounds;
 use crate::weave::{BLOCK_BYTES, load, store};
 use engine::{Engine, EngineFault, Variant};
 
+/// The fast engine of Delirium.
 #[derive(Clone, Copy)]
 pub struct Interleaved;
 

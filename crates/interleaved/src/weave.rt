@@ -1,6 +1,6 @@
 // The way of the bytes of blocks into the words that hold four blocks bit by bit, and back.
 ghost use Rattle.std.specs.Prelude.{◌≡◌, ℕ, ◌<◌, ◌≤◌, true, length, slice_index, slice_set};
-ghost use Rattle.engine.specs.Bits.{bit};
+ghost use Rattle.binary.specs.Bits.{bit};
 ghost use Rattle.interleaved.specs.Moves.{exchanged, apart, Moved, woven_from, unwoven_from};
 ghost use Rattle.interleaved.specs.Words.{gathered, scattered, loaded, stored};
 
@@ -26,8 +26,7 @@ fn weave(x: u32) -> u32
     exchange(c, 14, 0x0000CCCC)
 }
 
-// Takes the bit at place 4 z + i to bit z of byte i: the exchanges of weave, the last of them first. A table of
-// them, walked both ways, would say no more than these four lines.
+// Takes the bit at place 4 z + i to bit z of byte i: the exchanges of weave, the last of them first.
 fn unweave(x: u32) -> u32
     ensures { Moved unwoven_from x result }
 {

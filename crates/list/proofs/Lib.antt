@@ -1,9 +1,9 @@
-pub mod Filling
-pub mod Granted
-pub mod Inserted
-pub mod Last
+mod Filling
+mod Granted
+mod Inserted
+mod Last
 pub mod Laws
-pub mod Neighbours
-pub mod Rises
-pub mod Scans
-pub mod Shifts
+mod Neighbours
+mod Rises
+mod Scans
+mod Shifts

@@ -6,8 +6,8 @@ ghost use Rattle.list.specs.Order.{TotalOrder};
 
 use std::cmp::Ordering;
 
-// A kind of entry that a list can hold. Its order is not std's `Ord`, which asks that `==` holds where entries are equal in order: they may differ
-// elsewhere. Nor is it told by a key: an order that is no key's own would need a type for its keys, and each comparison a copy of two keys.
+/// A kind of entry that a list can hold. Its order is not std's `Ord`, which asks that `==` holds where entries are equal in order: they may
+/// differ elsewhere.
 pub trait Entry: Copy {
     // How two entries stand to each other in the order.
     ghost compares: { Self → Self → Comparison };
@@ -15,6 +15,7 @@ pub trait Entry: Copy {
     // That this is a total order.
     ghost total: { TotalOrder compares };
 
+    /// Where this entry stands in the order, beside another.
     fn compare(&self, other: &Self) -> Ordering
         ensures { result ≡ compares self.now other.now };
 }

@@ -1,14 +1,15 @@
-// Why an insertion is refused.
+// The faults of the list.
 
 ghost use Rattle.list.specs.Faults.{fault_number, fault_layer, fault_place};
 
 use fault::{Fault, Layer, Place};
 
+/// Why an insertion is refused.
 #[derive(Clone, Copy, PartialEq, Eq, Debug)]
 pub enum ListFault {
-    // An entry equal in order to the new one is already there.
+    /// An entry equal in order to the new one is already there.
     EqualEntry,
-    // Every place is taken.
+    /// Every place is taken.
     Full,
 }
 

@@ -1,4 +1,4 @@
-// The ordered list: a container over places that the caller lends, for every kind of entry that has a total order.
+//! The ordered list: a container over places that the caller lends, for every kind of entry that has a total order.
 #![tactic(auto)]
 
 mod entry;

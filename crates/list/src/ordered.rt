@@ -7,23 +7,24 @@ ghost use Rattle.list.specs.Keeping.{RisingStaysRising, KeepsEveryEntry};
 use crate::entry::Entry;
 use crate::faults::ListFault;
 
-// By a rule of the project the list lies over lent places: its entries are the first `count` of them, or all if `count` is larger.
-// Over places that hold entries already it is made by writing both fields.
+/// An ordered list over places that the caller lends. Over places that hold entries already it is made by writing both fields.
 #[derive(Drop)]
 pub struct Ordered<'a, T> {
+    /// The places, of which the first hold the entries.
     pub places: &'a mut [T],
+    /// How many entries there are; where it is above the number of places, every place holds one.
     pub count: usize,
 }
 
 impl<'a, T: Entry> Ordered<'a, T> {
-    // The empty list over these places.
+    /// The empty list over these places.
     pub fn new(places: &'a mut [T]) -> Ordered<'a, T>
         ensures { result ≡ empty_over places.entry }
     {
         Ordered { places, count: 0 }
     }
 
-    // The entries, in their order.
+    /// The entries, in their order.
     pub fn entries(&self) -> &[T]
         ensures { result.now ≡ entries_of self.now }
     {
@@ -44,7 +45,7 @@ impl<'a, T: Entry> Ordered<'a, T> {
         Ok(())
     }
 
-    // Inserts an entry at its place in the order, and answers the new count.
+    /// Inserts an entry at its place in the order, and answers the new count.
     pub fn insert(&mut self, e: T) -> Result<usize, ListFault>
         ensures answer { result ≡ answer_of T.compares e self.old.places.now self.old.count }
         ensures count { self.new.count ≡ count_after T.compares e self.old.places.now self.old.count }

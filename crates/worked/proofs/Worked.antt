@@ -3,7 +3,7 @@ use Rattle.std.proofs.Common.{◌≡◌, ℕ, ◌+◌, ◌/◌, ◌<◌, List, [
 use Rattle.std.specs.Fmt.{digits}
 use Rattle.std.proofs.lemmas.List.{take_at}
 use Rattle.std.specs.Int.Digits.{number_from_digits}
-use Rattle.engine.specs.Bits.{bits, block}
+use Rattle.binary.specs.Bits.{bits, block}
 use Rattle.engine.specs.Spongent.{substitute, counter, next}
 use Rattle.cipher.specs.Blocks.{parts}
 use Rattle.cipher.specs.Masks.{phi1}

@@ -1,6 +1,6 @@
 -- The worked examples of the definitions, all in one table. Numbers that begin with 0x are hexadecimal.
 use Rattle.std.specs.Prelude.{◌≡◌, ℕ, ◌≤◌, true, false, List, [], ◌∷◌, ◌++◌, length, replicate, slice_index}
-use Rattle.engine.specs.Bits.{bits, block}
+use Rattle.binary.specs.Bits.{bits, block}
 use Rattle.engine.specs.Spongent.{substitute, counter, place}
 use Rattle.engine.specs.Permutation.{block_size}
 use Rattle.engine.specs.declared.variants.Variant.TheVariants.{Dumbo, Jumbo, Delirium}

@@ -1,7 +1,7 @@
 use Rattle.std.proofs.Common.{◌≡◌, ℕ, ◌+◌, ◌-◌, ◌*◌, ◌/◌, ◌<◌, ◌≤◌, length, take, drop, ap, ◌∙◌, ap₂, arith}
-use Rattle.engine.specs.Bits.{bits}
+use Rattle.binary.specs.Bits.{bits}
 use Rattle.engine.specs.Spongent.{after, spongent}
-use Rattle.engine.proofs.Blocks.{Done, done_none, done_more}
+use Rattle.engine.proofs.BlockLaws.{Done, done_none, done_more}
 use Rattle.circuit.specs.Planes.{of_block, one_at, part, block_bit, Holds}
 use Rattle.circuit.proofs.Layers.{bits_length}
 use Rattle.circuit.proofs.Parts.{within, part_length, rest_same, part_done}

@@ -1,5 +1,5 @@
 use Rattle.engine.specs.Spongent.{spongent}
-use Rattle.engine.proofs.Blocks.{Done}
+use Rattle.engine.proofs.BlockLaws.{Done}
 use Rattle.circuit.proofs.blocks.permute.Given as goal
 
 abbrev pub invariant-loop-i : goal.invariant-loop-i

@@ -1,5 +1,5 @@
 use Rattle.std.proofs.Common.{◌≡◌, ℕ, ◌+◌, ◌*◌, ◌/◌, ◌<◌, length, arith}
-use Rattle.engine.specs.Bits.{bit_of}
+use Rattle.binary.specs.Bits.{bit_of}
 use Rattle.circuit.specs.Planes.{of_block, part, word_bit}
 use Rattle.circuit.proofs.Fours.{by_four}
 use Rattle.circuit.proofs.Octets.{loaded}

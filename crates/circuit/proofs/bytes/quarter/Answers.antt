@@ -1,5 +1,5 @@
 use Rattle.std.proofs.Common.{◌≡◌, ℕ, ◌+◌, ◌-◌, ◌*◌, ◌/◌, ◌<◌, ◌≤◌, length, take, drop, ap, ◌∙◌, mul-le-mul_right, arith}
-use Rattle.engine.specs.Bits.{bit_of}
+use Rattle.binary.specs.Bits.{bit_of}
 use Rattle.circuit.proofs.Parts.{part_length}
 use Rattle.circuit.proofs.bytes.quarter.Goals as goal
 

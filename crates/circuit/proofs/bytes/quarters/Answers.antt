@@ -1,5 +1,5 @@
 use Rattle.std.proofs.Common.{◌≡◌, ◌+◌, ◌*◌, ◌/◌, ap, ◌∙◌, rules}
-use Rattle.engine.specs.Bits.{bit, bit_of}
+use Rattle.binary.specs.Bits.{bit, bit_of}
 use Rattle.circuit.specs.Planes.{part}
 use Rattle.circuit.proofs.bytes.quarters.Goals as goal
 

@@ -1,6 +1,6 @@
 use Rattle.std.proofs.Common.{ℕ, ◌*◌, List, [], ◌∷◌, length, ◌∙◌, arith}
-use Rattle.engine.specs.Bits.{word}
-use Rattle.engine.proofs.Filling.{filled_more, filled_end}
+use Rattle.binary.specs.Bits.{word}
+use Rattle.binary.proofs.MadeLaws.{filled_more, filled_end}
 use Rattle.circuit.specs.Packed.{packed_bit}
 use Rattle.circuit.proofs.Octets.{stored}
 use Rattle.circuit.proofs.bytes.store.Goals as goal

@@ -1,6 +1,6 @@
 use Rattle.std.proofs.Common.{◌*◌}
-use Rattle.engine.specs.Bits.{word}
-use Rattle.engine.proofs.Filling.{Filled}
+use Rattle.binary.specs.Bits.{word}
+use Rattle.binary.proofs.MadeLaws.{Filled}
 use Rattle.circuit.specs.Packed.{packed_bit}
 use Rattle.circuit.proofs.bytes.store.Given as goal
 

@@ -1,6 +1,6 @@
 use Rattle.std.proofs.Common.{◌≡◌, ◌+◌, ◌-◌, ◌*◌, ◌<◌, ap, ◌∙◌, arith}
-use Rattle.engine.specs.Bits.{bit_of}
-use Rattle.engine.proofs.Rotations.{bit_shr}
+use Rattle.binary.specs.Bits.{bit_of}
+use Rattle.binary.proofs.RotationLaws.{bit_shr}
 use Rattle.circuit.proofs.bytes.word_from.Goals as goal
 
 pub returns : goal.returns

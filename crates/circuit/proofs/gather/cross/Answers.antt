@@ -1,5 +1,5 @@
 use Rattle.std.proofs.Common.{ℕ, ◌<◌, ◌&&◌, ap, ◌∙◌}
-use Rattle.engine.specs.Bits.{bit, differs}
+use Rattle.binary.specs.Bits.{bit, differs}
 use Rattle.circuit.proofs.Swaps.{cross_lo, cross_hi}
 use Rattle.circuit.proofs.gather.cross.Goals as goal
 

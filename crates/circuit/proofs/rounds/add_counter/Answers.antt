@@ -1,5 +1,5 @@
 use Rattle.std.proofs.Common.{◌-◌, ◌*◌, ◌%◌, ◌^◌, ap, ◌∙◌, ap₂, arith}
-use Rattle.engine.specs.Bits.{bit, differs}
+use Rattle.binary.specs.Bits.{bit, differs}
 use Rattle.circuit.proofs.Counters.{counter_holds}
 use Rattle.circuit.proofs.rounds.add_counter.Goals as goal
 

@@ -1,5 +1,5 @@
 use Rattle.std.proofs.Common.{◌≡◌, ◌-◌, ◌^◌, ◌<◌, length}
-use Rattle.engine.specs.Bits.{value}
+use Rattle.binary.specs.Bits.{value}
 use Rattle.engine.proofs.bits.number.Given as goal
 
 -- the number of the bits so far, which are the highest

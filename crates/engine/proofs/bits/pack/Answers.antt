@@ -1,7 +1,7 @@
 use Rattle.std.proofs.Common.{◌≡◌, ◌+◌, ◌*◌, ◌≤◌, length, refl, ◌∙◌, arith}
-use Rattle.engine.proofs.Filling.{filled_more, filled_end}
-use Rattle.engine.proofs.Numbers.{value_part}
-use Rattle.engine.specs.Bits.{byte_of, block}
+use Rattle.binary.proofs.MadeLaws.{filled_more, filled_end}
+use Rattle.binary.proofs.NumberLaws.{value_part}
+use Rattle.binary.specs.Bits.{byte_of, block}
 use Rattle.engine.proofs.bits.pack.Goals as goal
 
 pub loop-k-preserved : goal.loop-k-preserved

@@ -1,5 +1,5 @@
-use Rattle.engine.specs.Bits.{byte_of}
-use Rattle.engine.proofs.Filling.{Filled}
+use Rattle.binary.specs.Bits.{byte_of}
+use Rattle.binary.proofs.MadeLaws.{Filled}
 use Rattle.engine.proofs.bits.pack.Given as goal
 
 abbrev pub invariant-loop-k : goal.invariant-loop-k

@@ -1,6 +1,6 @@
 use Rattle.std.proofs.Common.{false, ap, ◌∙◌, rules}
-use Rattle.engine.proofs.Filling.{made_from_fn}
-use Rattle.engine.specs.Bits.{bit_of, bits, made}
+use Rattle.binary.proofs.MadeLaws.{made_from_fn}
+use Rattle.binary.specs.Bits.{bit_of, bits, made}
 use Rattle.engine.proofs.bits.unpack.Goals as goal
 
 pub returns : goal.returns

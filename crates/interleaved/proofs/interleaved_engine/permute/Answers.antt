@@ -1,7 +1,7 @@
 use Rattle.std.proofs.Common.{◌*◌, sym, ap, ◌∙◌, ap₂}
 use Rattle.engine.specs.Permutation.{permutation, each}
 use Rattle.engine.specs.declared.variants.Variant.TheVariants.{Delirium}
-use Rattle.engine.proofs.Granted.{replaced_granted}
+use Rattle.engine.proofs.CallLaws.{replaced_granted}
 use Rattle.interleaved.specs.Words.{stored, w_after}
 use Rattle.interleaved.proofs.Interleaving.{blocks_are}
 use Rattle.interleaved.proofs.interleaved_engine.permute.Goals as goal

@@ -1,6 +1,6 @@
 use Rattle.std.proofs.Common.{◌≡◌, ℕ, suc, ◌+◌, ◌*◌, ◌<◌, List, [], ◌∷◌, get_or, refl, ap, ◌∙◌, ap₂, add-one, zero-add, arith}
 use Rattle.std.proofs.lemmas.List.FromFn.{get_or-map-range_with_len}
-use Rattle.engine.specs.Bits.{made}
+use Rattle.binary.specs.Bits.{made}
 use Rattle.engine.specs.Keccak.{constants}
 use Rattle.interleaved.specs.Words.{woven, w_add, w_layers, w_round, w_after}
 use Rattle.interleaved.proofs.rounds.all_rounds.Goals as goal

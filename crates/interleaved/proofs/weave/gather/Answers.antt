@@ -1,5 +1,5 @@
 use Rattle.std.proofs.Common.{◌≡◌, ℕ, ◌+◌, ◌*◌, get_or, sym, ap, ◌∙◌, zero-add, arith, rules}
-use Rattle.engine.specs.Bits.{bit}
+use Rattle.binary.specs.Bits.{bit}
 use Rattle.interleaved.proofs.Weaving.{woven_is, joined, bit_of_joined}
 use Rattle.interleaved.proofs.weave.gather.Goals as goal
 

@@ -1,5 +1,5 @@
 use Rattle.std.proofs.Common.{arith, rules}
-use Rattle.engine.proofs.Filling.{filled_more, filled_end}
+use Rattle.binary.proofs.MadeLaws.{filled_more, filled_end}
 use Rattle.interleaved.specs.Words.{gathered, loaded}
 use Rattle.interleaved.proofs.weave.load.Goals as goal
 

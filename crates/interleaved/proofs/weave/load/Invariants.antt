@@ -1,5 +1,5 @@
 use Rattle.std.proofs.Common.{◌≡◌, length}
-use Rattle.engine.proofs.Filling.{Filled}
+use Rattle.binary.proofs.MadeLaws.{Filled}
 use Rattle.interleaved.specs.Words.{gathered}
 use Rattle.interleaved.proofs.weave.load.Given as goal
 

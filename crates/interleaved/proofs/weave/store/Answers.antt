@@ -1,5 +1,5 @@
 use Rattle.std.proofs.Common.{◌≡◌, ℕ, ◌+◌, ◌*◌, ◌/◌, ◌%◌, ◌<◌, length, get_or, ap₂, arith, rules}
-use Rattle.engine.proofs.Filling.{filled_all}
+use Rattle.binary.proofs.MadeLaws.{filled_all}
 use Rattle.interleaved.specs.Words.{lifted, stored_at, stored}
 use Rattle.interleaved.proofs.Columns.{columns_more}
 use Rattle.interleaved.proofs.weave.store.Goals as goal

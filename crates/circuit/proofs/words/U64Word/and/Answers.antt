@@ -1,4 +1,4 @@
-use Rattle.engine.proofs.BitLaws.{bit_of_and}
+use Rattle.binary.proofs.BitLaws.{bit_of_and}
 use Rattle.circuit.proofs.words.U64Word.and.Goals as goal
 
 pub returns : goal.returns

@@ -1,5 +1,5 @@
 use Rattle.std.proofs.Common.{rules}
-use Rattle.engine.proofs.BitLaws.{bit_not}
+use Rattle.binary.proofs.BitLaws.{bit_not}
 use Rattle.circuit.proofs.words.U64Word.not.Goals as goal
 
 pub returns : goal.returns

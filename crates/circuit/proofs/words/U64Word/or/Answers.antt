@@ -1,4 +1,4 @@
-use Rattle.engine.proofs.BitLaws.{bit_of_or}
+use Rattle.binary.proofs.BitLaws.{bit_of_or}
 use Rattle.circuit.proofs.words.U64Word.or.Goals as goal
 
 pub returns : goal.returns

@@ -1,4 +1,4 @@
-use Rattle.engine.proofs.BitLaws.{bit_of_xor}
+use Rattle.binary.proofs.BitLaws.{bit_of_xor}
 use Rattle.circuit.proofs.words.U64Word.xor.Goals as goal
 
 pub returns : goal.returns

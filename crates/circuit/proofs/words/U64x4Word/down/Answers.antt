@@ -1,5 +1,5 @@
 use Rattle.std.proofs.Common.{◌/◌, ◌%◌, ◌^◌, ◌<◌, [], ◌∷◌, get_or, refl, ap, ◌∙◌, rules}
-use Rattle.engine.specs.Bits.{bit}
+use Rattle.binary.specs.Bits.{bit}
 use Rattle.circuit.proofs.Shifts.{zip_lane, same_lane, bit_down}
 use Rattle.circuit.proofs.words.U64x4Word.down.Goals as goal
 

@@ -1,6 +1,6 @@
 use Rattle.std.proofs.Common.{◌-◌, ◌%◌, ◌^◌, ◌<◌, get_or, ap, ◌∙◌, rules}
-use Rattle.engine.specs.Bits.{bit}
-use Rattle.engine.proofs.BitLaws.{bit_not}
+use Rattle.binary.specs.Bits.{bit}
+use Rattle.binary.proofs.BitLaws.{bit_not}
 use Rattle.circuit.proofs.Shifts.{map_lane}
 use Rattle.circuit.proofs.words.U64x4Word.not.Goals as goal
 

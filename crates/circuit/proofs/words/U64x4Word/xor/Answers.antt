@@ -1,7 +1,7 @@
 use Rattle.std.proofs.Common.{◌%◌, get_or, ap, ◌∙◌, rules}
 use lib.Bits.{bit_xor}
-use Rattle.engine.specs.Bits.{bit}
-use Rattle.engine.proofs.BitLaws.{bit_of_xor}
+use Rattle.binary.specs.Bits.{bit}
+use Rattle.binary.proofs.BitLaws.{bit_of_xor}
 use Rattle.circuit.proofs.Shifts.{zip_lane}
 use Rattle.circuit.proofs.words.U64x4Word.xor.Goals as goal
 

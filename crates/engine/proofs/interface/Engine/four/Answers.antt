@@ -1,7 +1,7 @@
 use Rattle.std.proofs.Common.{◌≡◌, ◌+◌, ◌-◌, ◌*◌, ◌≤◌, length, take, drop, ap, ◌∙◌, rules}
 use Rattle.engine.specs.Permutation.{permutation, block_size}
-use Rattle.engine.proofs.Blocks.{done_none, done_more}
-use Rattle.engine.proofs.Granted.{replaced_granted}
+use Rattle.engine.proofs.BlockLaws.{done_none, done_more}
+use Rattle.engine.proofs.CallLaws.{replaced_granted}
 use Rattle.engine.proofs.interface.Engine.four.Goals as goal
 
 pub loop-i-init : goal.loop-i-init

@@ -1,5 +1,5 @@
 use Rattle.engine.specs.Permutation.{permutation}
-use Rattle.engine.proofs.Blocks.{Done}
+use Rattle.engine.proofs.BlockLaws.{Done}
 use Rattle.engine.proofs.interface.Engine.four.Given as goal
 
 abbrev pub invariant-loop-i : goal.invariant-loop-i

@@ -1,8 +1,8 @@
 -- A word's bits, gate by gate.
 use Rattle.std.proofs.Common.{◌≡◌, ℕ, ◌-◌, ◌^◌, ◌<◌, Bool, not, ◌&&◌, refl, ap, ◌∙◌, ap₂, arith, pow_pos}
 use lib.Bits.{bit_and, bit_xor, xor_lt, and_lt}
-use Rattle.engine.specs.Bits.{bit, differs}
-use Rattle.engine.proofs.BitLaws.{bit_of_and, bit_of_xor, bit_not}
+use Rattle.binary.specs.Bits.{bit, differs}
+use Rattle.binary.proofs.BitLaws.{bit_of_and, bit_of_xor, bit_not}
 
 -- the word n of w bits has the bit x at place k
 pub record Has (w k n : ℕ) (x : Bool) : Type 0 where

@@ -1,7 +1,6 @@
 -- The bits of numbers and of blocks. Bit j of a block is bit j mod 8 of byte j div 8, the least bit being 0.
-use Rattle.std.specs.Prelude.{ℕ, zero, suc, ◌+◌, ◌*◌, ◌/◌, ◌%◌, ◌^◌, Bool, false, not, List, map, length, ◌==◌, slice_index, slice_index_or}
+use Rattle.std.specs.Prelude.{ℕ, zero, suc, ◌+◌, ◌*◌, ◌/◌, ◌%◌, ◌^◌, Bool, false, not, if◌then◌else◌, List, map, length, ◌==◌, slice_index, slice_index_or}
 use Rattle.std.specs.Bool.{beq}
-use mir.Val.{bool_byte}
 use Rattle.std.specs.List.{range_with_len}
 
 -- Bit k of the number x.
@@ -10,7 +9,7 @@ bit x k = x / 2 ^ k % 2 == 1
 
 -- A bit as a number, 1 or 0.
 abbrev pub one : Bool → ℕ
-one b = bool_byte b
+one b = if b then 1 else 0
 
 -- Exclusive or: whether two bits differ.
 abbrev pub differs : Bool → Bool → Bool

@@ -1,7 +1,13 @@
 -- A number from its bits, highest first.
 use Rattle.std.proofs.Common.{◌≡◌, ℕ, zero, suc, ◌+◌, ◌-◌, ◌*◌, ◌^◌, ◌<◌, ◌≤◌, Bool, true, false, List, length, get_or, take, drop, reverse, refl, ap, ◌∙◌, ap₂, suc-le-suc, add-zero, zero-add, zero-lt-suc, pow-suc, add-one, arith, lit<}
 use Rattle.std.proofs.lemmas.List.{get_or_default, get_or-reverse, length-reverse, length-take, length-drop, get_or-take, get_or-drop}
-use Rattle.engine.specs.Bits.{one, value, word}
+use mir.Val.{bool_byte}
+use Rattle.binary.specs.Bits.{one, value, word}
+
+-- what the program makes of a bit when it takes it as a number
+pub bool_byte_bit : (b : Bool) → bool_byte b ≡ one b
+bool_byte_bit true = refl
+bool_byte_bit false = refl
 
 pub value_lt : (b : Bool) (i x : ℕ) → x < 2 ^ i → one b + 2 * x < 2 ^ (i + 1)
 value_lt true i x h = rw (add-one, pow-suc) (omega arith)

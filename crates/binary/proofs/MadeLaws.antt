@@ -6,7 +6,7 @@ use Rattle.std.proofs.lemmas.Bool.{cases_eq}
 use Rattle.std.specs.Array.{IsFromFnResult, IsFromFnResultFrom}
 use Rattle.std.specs.Fn.{Called}
 use denote.Param.Members.{Mut}
-use Rattle.engine.specs.Bits.{made}
+use Rattle.binary.specs.Bits.{made}
 
 -- The first i elements of xs are f 0, f 1, ..
 abbrev pub Filled : {X : Type 0} → (ℕ → X) → ℕ → List X → Type 0

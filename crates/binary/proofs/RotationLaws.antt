@@ -4,8 +4,8 @@ use native.Mathlib.Nat.{mod_self, add-mod_right}
 use lib.Bits.{bit_or, or_lt, shifted_half, shifted_even}
 use Rattle.std.proofs.lemmas.Nat.{shr-shr, shl-shr, shr_le, mod_below, field_of, mod-pow-add, div_below}
 use Rattle.std.proofs.lemmas.Bool.{cases_lt}
-use Rattle.engine.specs.Bits.{bit}
-use Rattle.engine.proofs.BitLaws.{bit_of_or, bit_suc}
+use Rattle.binary.specs.Bits.{bit}
+use Rattle.binary.proofs.BitLaws.{bit_of_or, bit_suc}
 
 pub bit_shr : (x s k : ℕ) → bit (x / 2 ^ s) k ≡ bit x (s + k)
 bit_shr x s k = ap (λ n. eqb (n % 2) 1) (shr-shr x s k)

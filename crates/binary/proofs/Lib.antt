@@ -1,0 +1,5 @@
+pub mod BitLaws
+pub mod MadeLaws
+pub mod NumberLaws
+pub mod RotationLaws
+pub mod WordLaws
