@@ -2,6 +2,7 @@ pub mod Faults
 pub mod Sales
 pub mod Page
 pub mod Places
+pub mod Rising
 pub mod Rooms
 pub mod Calls
 pub mod Admission

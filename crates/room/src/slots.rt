@@ -56,8 +56,8 @@ impl Slot {
     }
 }
 
-// The place of a bidder's slot. The slots are looked at one by one: there are at most 64, and `position` says it plainly. A binary search
-// would need that they rise by bidder, which those of a place with any content need not.
+// The place of a bidder's slot. The slots are looked at one by one: there are at most 64, and `position` says it plainly, whether they rise by
+// bidder or not.
 pub(crate) fn place_of(slots: &[Slot], bidder: u32) -> Result<usize, RoomFault>
     ensures { MatchResult result (λ i. IsFirst slots.now bidder i) (λ f. HasNone slots.now bidder × (f ≡ UnknownBidder)) }
 {
