@@ -12,6 +12,8 @@ use Rattle.envelope.specs.Envelopes.{envelope_size, sealed_part, tag_part}
 use Rattle.envelope.proofs.HeadLaws.{sequence_back}
 use Rattle.envelope.proofs.Laws.{head_back}
 use Rattle.room.specs.Sales.{Bytes, registered, key_of}
+use Rattle.envelope.specs.Parts.{BidParts}
+use Rattle.room.specs.Reading.{filled_by}
 use Rattle.room.specs.Rising.{RiseByBidder}
 use Rattle.room.specs.Rooms.{entry_of, kept_for, sequence_in, accepted, filled, filled_in, envelope_in, holding_of}
 use Rattle.room.specs.Slots.{new_slot, HasNone}
@@ -100,7 +102,7 @@ module _ (n i : ℕ) (y : Slot) (xs : List Slot) (same : y.bidder ≡ (get_or xs
   pub still_rise : RiseByBidder (take n xs) → RiseByBidder (take n (set xs i y))
   still_rise = subst IsStrictlyIncreasing (sym (take-map bidder n xs) ∙ ap (take n) (sym same_bidders) ∙ take-map bidder n (set xs i y))
 
--- Whether an envelope is kept in a slot or not, its bidder is the same.
-pub same_bidder : {F : Type 0} (a : Result ℕ F) (x y : Slot) (n : ℕ) (e : Bytes) → y ≡ left a (filled x n e) x → y.bidder ≡ x.bidder
-same_bidder (Ok m) x y n e h = ap (λ z. z.bidder) h
-same_bidder (Err f) x y n e h = ap (λ z. z.bidder) h
+-- Whether a bid is kept in a slot or not, its bidder is the same.
+pub same_bidder : {F : Type 0} (a : Result ℕ F) (x y : Slot) (b : BidParts) → y ≡ left a (filled_by b x) x → y.bidder ≡ x.bidder
+same_bidder (Ok m) x y b h = ap (λ z. z.bidder) h
+same_bidder (Err f) x y b h = ap (λ z. z.bidder) h

@@ -7,6 +7,7 @@ pub mod Rooms
 pub mod Calls
 pub mod Admission
 pub mod Slots
+pub mod Reading
 pub mod Making
 pub mod Opening
 pub mod Runs
