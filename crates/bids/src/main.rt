@@ -3,7 +3,9 @@
 
 use cipher::{KEY_BYTES, check};
 use engine::{Plain, Variant};
-use envelope::{EnvelopeFault, HEAD_BYTES, LETTER_BYTES, Pen, amount_in, parts_of, seal_bid};
+use envelope::{
+    EnvelopeFault, LETTER_BYTES, Pen, SealedBid, amount_in, head_of, parts_of, seal_bid,
+};
 use fault::Fault;
 use std::io;
 
@@ -128,22 +130,21 @@ fn tell<F: Fault>(rt: &HostRuntime, f: F) -> io::Result<()> {
 }
 
 // Reads an envelope: its head, its tag and its letter.
-fn show(rt: &HostRuntime, key: &[u8], envelope: &[u8; ENVELOPE_BYTES]) -> io::Result<()> {
-    if let Some(parts) = parts_of(envelope) {
-        let head = parts.head;
-        print!(rt; "{},{},{},", head.lot, head.bidder, head.sequence)?;
-    }
-    let (nonce, rest) = envelope.split_at(HEAD_BYTES);
-    let (sealed, tag) = rest.split_at(LETTER_BYTES);
-    let mut letter = [0u8; LETTER_BYTES];
-    match check(&ENGINE, key, nonce, TERMS, sealed, tag) {
+fn show(rt: &HostRuntime, key: &[u8], envelope: &[u8]) -> io::Result<()> {
+    let Some(bid) = parts_of(envelope).and_then(|parts| parts.sealed_bid(ENGINE.variant)) else {
+        return println!(rt; "no envelope");
+    };
+    let SealedBid { head, letter, tag } = bid;
+    print!(rt; "{},{},{},", head.lot, head.bidder, head.sequence)?;
+    let mut opened = [0u8; LETTER_BYTES];
+    match check(&ENGINE, key, &head_of(head), TERMS, letter, tag) {
         Err(f) => println!(rt; "wrong,{}", f.number()),
-        Ok(text) => match text.open(&ENGINE, &mut letter) {
+        Ok(text) => match text.open(&ENGINE, &mut opened) {
             Err((f, again)) => {
                 again.into_sealed();
                 println!(rt; "right,refused with {}", f.number())
             }
-            Ok(()) => println!(rt; "right,{}", amount_in(&letter)),
+            Ok(()) => println!(rt; "right,{}", amount_in(&opened)),
         },
     }
 }

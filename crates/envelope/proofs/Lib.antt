@@ -5,4 +5,5 @@ pub mod HeadLaws
 pub mod BidLaws
 pub mod PenLaws
 pub mod Laws
+pub mod ReadingLaws
 pub mod Whole

@@ -29,14 +29,18 @@ four_parts xs h =
     ∙ take-append-drop 16 xs
 
 -- The four numbers that 64 bytes write hold them.
-pub held_back : (xs : List ℕ) (t : Terms) → length xs ≡ 64 → AllBelowBase 256 xs → t.a ≡ number_from_digits 256 (take 16 (take 16 xs)) → t.b ≡ number_from_digits 256 (take 16 (take 16 (drop 16 xs))) → t.c ≡ number_from_digits 256 (take 16 (take 16 (drop 32 xs))) → t.d ≡ number_from_digits 256 (take 16 (take 16 (drop 48 xs))) → bytes_of_terms t ≡ take t.len xs
-unfolding held_bytes bytes_of_terms
+pub held_back : (xs : List ℕ) (t : Terms) → length xs ≡ 64 → AllBelowBase 256 xs → t.a ≡ number_from_digits 256 (take 16 (take 16 xs)) → t.b ≡ number_from_digits 256 (take 16 (take 16 (drop 16 xs))) → t.c ≡ number_from_digits 256 (take 16 (take 16 (drop 32 xs))) → t.d ≡ number_from_digits 256 (take 16 (take 16 (drop 48 xs))) → held_bytes t ≡ xs
+unfolding held_bytes
 held_back xs t h u ea eb ec ed =
-    ap (take t.len)
-    (ap₂ ◌++◌ (part_back 0 t.a xs (omega arith) u ea)
+    ap₂ ◌++◌ (part_back 0 t.a xs (omega arith) u ea)
     (ap₂ ◌++◌ (part_back 16 t.b xs (omega arith) u eb)
     (ap₂ ◌++◌ (part_back 32 t.c xs (omega arith) u ec) (part_back 48 t.d xs (omega arith) u ed)))
-    ∙ four_parts xs h)
+    ∙ four_parts xs h
+
+-- The terms that held bytes begin with.
+pub terms_held : (t : Terms) (xs : List ℕ) → held_bytes t ≡ xs → bytes_of_terms t ≡ take t.len xs
+unfolding bytes_of_terms
+terms_held t xs e = ap (take t.len) e
 
 pub held_length : (t : Terms) → length (held_bytes t) ≡ 64
 unfolding held_bytes

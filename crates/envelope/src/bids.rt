@@ -12,15 +12,16 @@ use crate::terms::MOST_TERMS_BYTES;
 use cipher::{check_key, seal, tag_bytes};
 use engine::{Engine, Variant};
 
-// The bytes of an envelope.
+/// The bytes of a variant's envelopes.
 pub fn envelope_bytes(variant: Variant) -> usize
     ensures { result ≡ envelope_size variant }
 {
     HEAD_BYTES + LETTER_BYTES + tag_bytes(variant)
 }
 
-// Seals a bid: writes the envelope of a head, an amount and a note under the head's terms. The head is used up, granted or refused. After a
-// refusal the place is as it was. Amount and note are lent one by one, here and below: a struct of both would be made for each call alone.
+/// Seals a bid: writes the envelope of a head, an amount in cents and a note under the head's terms. The head is used up, granted or refused.
+/// After a refusal the place is as it was. Amount and note are lent one by one, here and below: a struct of both would be made for each call
+/// alone.
 #[tactic(auto, using(crate::proofs::TermsLaws::terms_short))]
 pub fn seal_bid<E: Engine>(
     engine: &E,

@@ -6,19 +6,20 @@ ghost use Rattle.envelope.specs.declared.faults.EnvelopeFault.TheVariants.{Ciphe
 use cipher::CipherFault;
 use fault::{Fault, Layer, Place};
 
+/// Why a pen or the sealing of a bid refused.
 #[derive(Clone, Copy, PartialEq, Eq, Debug)]
 pub enum EnvelopeFault {
-    // The terms have more than 64 bytes.
+    /// The terms have more than 64 bytes.
     TermsLength,
-    // The pen has given its last sequence.
+    /// The pen has given its last sequence.
     HeadsSpent,
-    // The place has another length than the variant's envelopes.
+    /// The place has another length than the variant's envelopes.
     EnvelopeLength,
-    // The note has more than 55 bytes.
+    /// The note has more than 55 bytes.
     NoteLength,
-    // The amount is above 999,999,999,999 cents.
+    /// The amount is above 999,999,999,999 cents.
     AmountAboveLimit,
-    // The cipher refused.
+    /// The cipher refused.
     Cipher(CipherFault),
 }
 

@@ -2,7 +2,7 @@
 ghost use Rattle.std.specs.Prelude.{◌≡◌, ◌≤◌, length};
 ghost use Rattle.envelope.specs.Letters.{letter as letter_for, lawful, amount_offered, only_zeros};
 
-// The bytes of a letter.
+/// The bytes of a letter.
 pub const LETTER_BYTES: usize = 64;
 
 // The most bytes of a note.
@@ -27,7 +27,7 @@ pub(crate) fn letter_of(amount: u64, note: &[u8]) -> [u8; LETTER_BYTES]
     letter
 }
 
-// The amount that a letter offers. It is 0 where the letter is unlawful: by the rules such a letter offers nothing, as one of amount 0.
+/// The amount that a letter offers, in cents. It is 0 where the letter is unlawful: by the rules such a letter offers nothing, as one of amount 0.
 pub fn amount_in(letter: &[u8]) -> u64
     ensures { result ≡ amount_offered letter.now }
 {
@@ -37,7 +37,7 @@ pub fn amount_in(letter: &[u8]) -> u64
     }
 }
 
-// Whether a letter is lawful: all of its bytes are looked at, and not its note alone.
+/// Whether a letter is lawful: all of its bytes are looked at, and not its note alone.
 pub fn is_lawful(letter: &[u8]) -> bool
     ensures { result ≡ lawful letter.now }
 {

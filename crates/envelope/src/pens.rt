@@ -8,7 +8,7 @@ use crate::terms::{MOST_TERMS_BYTES, Terms};
 
 const LAST_SEQUENCE: u32 = 4_294_967_295;
 
-// A pen for a lot and its terms. One counter gives sequences 1, 2, 3 and on for all bidders.
+/// A pen for a lot and its terms. One counter gives sequences 1, 2, 3 and on for all bidders.
 #[derive(Drop)]
 pub struct Pen {
     lot: u32,
@@ -17,7 +17,7 @@ pub struct Pen {
 }
 
 impl Pen {
-    // Makes a pen, which has given no head yet.
+    /// Makes a pen, which has given no head yet. It is refused with `TermsLength` for terms of more than 64 bytes.
     pub fn new(lot: u32, terms: &[u8]) -> Result<Pen, EnvelopeFault>
         ensures { pen_seen result ≡ pen_answer lot terms.now }
     {
@@ -31,7 +31,7 @@ impl Pen {
         })
     }
 
-    // Takes the next head, for a bidder.
+    /// Takes the next head, for a bidder. It is refused with `HeadsSpent` once the last sequence is given, and leaves the pen as it was.
     pub fn take(&mut self, bidder: u32) -> Result<Head, EnvelopeFault>
         ensures { Taken self.old bidder result self.new }
     {

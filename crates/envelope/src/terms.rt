@@ -1,9 +1,9 @@
 // Terms: what a lot is sold under, up to 64 bytes, held as plain numbers.
-ghost use Rattle.std.specs.Prelude.{◌≡◌, ◌≤◌, length, take};
+ghost use Rattle.std.specs.Prelude.{◌≡◌, ◌-◌, ◌≤◌, ◌++◌, length, take, replicate};
 
 use big_endian::{number_of, put_number};
 
-// The most bytes that terms may have.
+/// The most bytes that terms may have.
 pub const MOST_TERMS_BYTES: usize = 64;
 
 // Four numbers of sixteen bytes each, filled with zeros after the terms, and how many bytes the terms have. By a rule of the project a head
@@ -21,10 +21,11 @@ pub struct Terms {
 impl Terms {
     ghost use Rattle.envelope.specs.Terms.{bytes_of_terms, held_bytes};
 
-    // The terms that the bytes write.
+    // The terms that the bytes write, filled with zeros.
     pub(crate) fn new(bytes: &[u8]) -> Terms
         requires { length bytes.now ≤ 64 }
-        ensures { bytes_of_terms result ≡ bytes.now }
+        ensures terms { bytes_of_terms result ≡ bytes.now }
+        ensures zeros { held_bytes result ≡ bytes.now ++ replicate (64 - length bytes.now) 0 }
     {
         let mut held = [0u8; MOST_TERMS_BYTES];
         held[..bytes.len()].copy_from_slice(bytes);
@@ -34,7 +35,8 @@ impl Terms {
     // The terms that the first of these bytes write, `len` of them. The parts of the place are slices, which `number_of` takes as they are.
     fn held_in(held: &[u8; MOST_TERMS_BYTES], len: u8) -> Terms
         requires { len ≤ 64 }
-        ensures { bytes_of_terms result ≡ take len held.now }
+        ensures terms { bytes_of_terms result ≡ take len held.now }
+        ensures held { held_bytes result ≡ held.now }
     {
         Terms {
             a: number_of(&held[0..16]),
@@ -53,7 +55,7 @@ impl Terms {
         self.len as usize
     }
 
-    // Writes the bytes of the terms, and zeros after them.
+    // Writes the four numbers: the bytes of the terms, and what fills them after these.
     pub(crate) fn put(self, held: &mut [u8; MOST_TERMS_BYTES])
         ensures { held.new ≡ held_bytes self }
     {

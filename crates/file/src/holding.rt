@@ -20,9 +20,9 @@ use room::{MOST_BIDDERS, MOST_PAGE_BYTES, RegisterEntry, Room, RoomState, SheetE
 use std::alloc::Global;
 
 // Opens a closed room and adds its page.
-fn add_page<E: Engine + Drop>(room: &mut Room<E>, out: &mut Vec<u8>) -> Result<(), Stopped>
-    requires { is_closed room.old.inner.now.phase ≡ true }
-    ensures { OrLacksMemory result (λ _. out.new.items ≡ out.old.items ++ page_of_room (contents (E.kind room.old.engine) room.old.inner.now)) }
+fn add_page<E: Engine + Drop>(room: &Room<E>, out: &mut Vec<u8>) -> Result<(), Stopped>
+    requires { is_closed room.now.inner.now.phase ≡ true }
+    ensures { OrLacksMemory result (λ _. out.new.items ≡ out.old.items ++ page_of_room (contents (E.kind room.now.engine) room.now.inner.now)) }
 {
     let mut sheet = [SheetEntry {
         bidder: 0,
@@ -59,7 +59,7 @@ fn hold_by<E: Engine + Drop>(
     lodge_all(text, &mut room, &mut out)?;
     room.close()?;
     out.extend_from_slice(b"\n")?;
-    add_page(&mut room, &mut out)?;
+    add_page(&room, &mut out)?;
     Ok(out)
 }
 

@@ -1,20 +1,22 @@
 -- Each way out of lodging and asking.
-use Rattle.std.proofs.Common.{◌≡◌, ℕ, ◌^◌, ◌<◌, ◌≤◌, Bool, true, false, cond, eqb, ltb, List, [], ◌∷◌, length, get_or, take, set, Some, Ok, Err, Result, sym, refl, ap, ap₂, ◌∙◌, arith}
-use Rattle.std.proofs.Math.Bridge.{le_prop}
+use Rattle.std.proofs.Common.{◌≡◌, ℕ, ◌^◌, ◌<◌, ◌≤◌, Bool, true, false, cond, eqb, ltb, List, [], ◌∷◌, length, get_or, take, set, Some, Ok, Err, Result, sym, refl, ap, ◌∙◌, arith}
 use Rattle.std.specs.Int.Digits.{AllBelowBase}
 use Rattle.std.specs.Str.{bytes_eq}
 use Rattle.std.proofs.lemmas.Bool.{eq-eqb, eqb-true, lt-ltb, le-ltb}
-use Rattle.std.proofs.lemmas.List.{get_or-take, length-take, set-get_or}
+use Rattle.std.proofs.lemmas.List.{get_or-take, length-take, length-drop, set-get_or}
 use Rattle.std.proofs.Math.Seq.{take-set-lt}
 use Rattle.fault.specs.Checks.{Check, decided, left}
 use Rattle.engine.specs.declared.variants.Variant.{Variant}
+use Rattle.cipher.specs.Mode.{tag_size}
 use Rattle.cipher.specs.declared.faults.CipherFault.TheVariants.{WrongTag as CipherWrongTag}
 use Rattle.envelope.specs.Heads.{lot_of, bidder_of, sequence_of}
 use Rattle.envelope.specs.declared.heads.HeadFields.{HeadFields}
 use Rattle.envelope.specs.Envelopes.{envelope_size, tag_part, right_tag}
+use Rattle.envelope.specs.Parts.{BidParts, bid_of}
 use Rattle.room.specs.Sales.{Bytes, registered, key_of, tag_due}
-use Rattle.room.specs.Rooms.{Contents, register_of, sale_of, kept_for, sequence_in, filled, contents, holding_of}
-use Rattle.room.specs.Calls.{Lodging, Asking, Answer, answer_to, room_after, head_checks, tag_checks, fields_of, lodging_checks, holding, place_after, Met}
+use Rattle.room.specs.Rooms.{Contents, register_of, sale_of, kept_for, sequence_in, filled, holding_of}
+use Rattle.room.specs.Calls.{Lodging, Asking, Answer, answer_to, room_after, head_checks, tag_checks, fields_of, lodging_checks, holding, PlainFields, plain_fields, place_after, Met}
+use Rattle.room.specs.Reading.{bid_checks, filled_by}
 use Rattle.room.specs.Admission.{admitted}
 use Rattle.room.specs.Slots.{room_of, IsFirst, HasNone}
 use Rattle.room.specs.declared.admission.Op.TheVariants.{Lodge}
@@ -25,6 +27,7 @@ use Rattle.room.specs.declared.slots.Phase.TheVariants.{Open, Closed as PhaseClo
 use Rattle.room.specs.declared.slots.Slot.{Slot}
 use Rattle.room.specs.declared.state.RoomState.{RoomState}
 use Rattle.room.proofs.CodeChecks.{not_both, same_value, same_reason, decided_front}
+use Rattle.room.proofs.CodeReading.{filled_by_bid, checks_of_bid}
 use Rattle.room.proofs.CodeSlots.{no_slot, last_is, kept_is, none_known, placed, put_at, filled_at}
 
 -- What lodging into the slots of an open room promises.
@@ -32,17 +35,24 @@ pub record Lodged (v : Variant) (lot : ℕ) (terms : Bytes) (before : List Slot)
   pub answers : a ≡ answer_to (room_of v lot terms Open before) (Lodging e)
   pub leaves : room_of v lot terms Open after ≡ room_after (room_of v lot terms Open before) (Lodging e)
 
--- What is known once the head is read.
-pub head_read : (v : Variant) (lot : ℕ) (e : Bytes) (h : HeadFields) → ◌≡◌ {A = Result HeadFields RoomFault} (Ok h) (decided (head_checks v lot e) (fields_of e))
-    → (length e ≡ envelope_size v) × (lot_of e ≡ lot) × (h ≡ fields_of e)
-head_read v lot e h read = go (eqb (length e) (envelope_size v)) refl (eqb (lot_of e) lot) refl read
+-- What is known once the bid is read: of the envelope, and of the bid.
+read_passed : (v : Variant) (lot : ℕ) (e : Bytes) (b : BidParts) → ◌≡◌ {A = Result BidParts RoomFault} (Ok b) (decided (head_checks v lot e) (bid_of e))
+    → (length e ≡ envelope_size v) × (lot_of e ≡ lot) × (b ≡ bid_of e)
+read_passed v lot e b read = go (eqb (length e) (envelope_size v)) refl (eqb (lot_of e) lot) refl read
   where
     go : (t : Bool) → eqb (length e) (envelope_size v) ≡ t → (u : Bool) → eqb (lot_of e) lot ≡ u
-        → ◌≡◌ {A = Result HeadFields RoomFault} (Ok h) (cond t (cond u (Ok (fields_of e)) (Err OtherLot)) (Err EnvelopeLength))
-        → (length e ≡ envelope_size v) × (lot_of e ≡ lot) × (h ≡ fields_of e)
-    go true et true eu q = (eqb-true _ _ et, eqb-true _ _ eu, same_value h (fields_of e) q)
-    go true et false eu q = absurd (not_both h OtherLot q)
-    go false et u eu q = absurd (not_both h EnvelopeLength q)
+        → ◌≡◌ {A = Result BidParts RoomFault} (Ok b) (cond t (cond u (Ok (bid_of e)) (Err OtherLot)) (Err EnvelopeLength))
+        → (length e ≡ envelope_size v) × (lot_of e ≡ lot) × (b ≡ bid_of e)
+    go true et true eu q = (eqb-true _ _ et, eqb-true _ _ eu, same_value b (bid_of e) q)
+    go true et false eu q = absurd (not_both b OtherLot q)
+    go false et u eu q = absurd (not_both b EnvelopeLength q)
+
+pub head_read : (v : Variant) (lot : ℕ) (e : Bytes) (b : BidParts) → ◌≡◌ {A = Result BidParts RoomFault} (Ok b) (decided (head_checks v lot e) (bid_of e))
+    → (length e ≡ envelope_size v) × (lot_of e ≡ lot) × (b.head ≡ fields_of e)
+head_read v lot e b read = let p = read_passed v lot e b read in (p.0, p.1, ap (λ z. z.head) p.2)
+
+pub tag_read : (v : Variant) (lot : ℕ) (e : Bytes) (b : BidParts) → ◌≡◌ {A = Result BidParts RoomFault} (Ok b) (decided (head_checks v lot e) (bid_of e)) → length b.tag ≡ tag_size v
+tag_read v lot e b read = let p = read_passed v lot e b read in ap (λ z. length z.tag) p.2 ∙ length-drop 76 e ∙ omega (arith, p.0)
 
 -- What is known on the way, in the program's order.
 module _ (v : Variant) (lot : ℕ) (terms : Bytes) (xs : List Slot) (e : Bytes) where
@@ -57,9 +67,9 @@ module _ (v : Variant) (lot : ℕ) (terms : Bytes) (xs : List Slot) (e : Bytes) 
       (registered (register_of before) (bidder_of e), UnknownBidder) ∷ ((ltb (sequence_in (kept_for before.holdings (bidder_of e))) (sequence_of e), SequenceNotAbove)
       ∷ ((bytes_eq (tag_part e) (tag_due (sale_of before) e), WrongTag (bidder_of e) (sequence_of e) CipherWrongTag) ∷ []))
 
-  pub way_head : (f : RoomFault) → ◌≡◌ {A = Result HeadFields RoomFault} (Err f) (decided (head_checks v lot e) (fields_of e)) → Lodged v lot terms xs e (Err f) xs
+  pub way_head : (f : RoomFault) → ◌≡◌ {A = Result BidParts RoomFault} (Err f) (decided (head_checks v lot e) (bid_of e)) → Lodged v lot terms xs e (Err f) xs
   unfolding lodging_checks
-  way_head f h = refused f (decided_front (head_checks v lot e) later_checks (fields_of e) (sequence_of e) f h)
+  way_head f h = refused f (decided_front (head_checks v lot e) later_checks (bid_of e) (sequence_of e) f h)
 
   module _ (head : HeadFields) (read : (length e ≡ envelope_size v) × (lot_of e ≡ lot) × (head ≡ fields_of e)) where
     its_bidder : head.bidder ≡ bidder_of e
@@ -158,18 +168,21 @@ module _ (v : Variant) (lot : ℕ) (terms : Bytes) (xs : List Slot) (e : Bytes) 
   in_closed f Open h = absurd (not_both tt f (sym h))
   in_closed f PhaseClosed h = ap (λ g. Err g) (sym (same_reason f Closed h))
 
--- A place written back: that its terms and its slots in use are within their arrays has one proof at most.
-pub written_back : (s : RoomState) (short : s.terms_bytes ≤ 64) (few : s.count ≤ 64) → record s { short = short; few = few } ≡ s
-written_back s short few = ap₂ (λ p q. record s { short = p; few = q }) (le_prop short s.short) (le_prop few s.few)
+-- The room that a place holds is told by its plain fields.
+abbrev held_by : Variant → PlainFields → Contents
+held_by v p = room_of v p.lot (take p.terms_bytes p.terms) p.phase (take p.count p.slots)
+
+abbrev with_slots : RoomState → List Slot → PlainFields
+with_slots r ss = record (plain_fields r) { slots = ss }
 
 pub met_open : (v : Variant) (r t : RoomState) (ys zs : List Slot) (e : Bytes) (a : Answer) → ◌≡◌ {A = Result (Unit {0}) RoomFault} (Ok tt) (admitted r.phase Lodge)
-    → t ≡ record r { slots = ys } → take r.count ys ≡ zs → record r { slots = ys } ≡ place_after r (Lodging e) a
+    → plain_fields t ≡ with_slots r ys → take r.count ys ≡ zs → with_slots r ys ≡ place_after (plain_fields r) (Lodging e) a
     → Lodged v r.lot (take r.terms_bytes r.terms) (take r.count r.slots) e a zs → Met v r (Lodging e) a t
 met_open v r t ys zs e a o is put whole l =
     let p = in_open v r.lot (take r.terms_bytes r.terms) (take r.count r.slots) e a zs l r.phase o in
     record {
       answers = p.0;
-      leaves = ap (contents v) is ∙ ap (room_of v r.lot (take r.terms_bytes r.terms) r.phase) put ∙ p.1;
+      leaves = ap (held_by v) is ∙ ap (room_of v r.lot (take r.terms_bytes r.terms) r.phase) put ∙ p.1;
       place = is ∙ whole;
     }
 
@@ -199,29 +212,42 @@ module _ (v : Variant) (r t : RoomState) (e : Bytes) (head : HeadFields) (i : �
       found.2 k no_slot l (ap (λ x. x.bidder) (get_or-take r.count r.slots k no_slot (omega (arith, inside))) ∙ q ∙ sym (ap (λ h. h.bidder) read.2))
 
   filled_here : (a : Answer) (y : Slot) → y ≡ left a (filled (get_or r.slots i no_slot) head.sequence e) (get_or r.slots i no_slot)
-      → record r { slots = set r.slots i y } ≡ place_after r (Lodging e) a
+      → with_slots r (set r.slots i y) ≡ place_after (plain_fields r) (Lodging e) a
   filled_here (Ok n) y h =
       let long = length-take r.count r.slots in
-      ap (λ z. record r { slots = set r.slots i z }) (h ∙ ap (λ m. filled (get_or r.slots i no_slot) m e) (ap (λ g. g.sequence) read.2))
-      ∙ ap (λ zs. record r { slots = zs }) (filled_at e no_slot r.slots i (omega (arith, found.0)) here_slot first_slot)
+      ap (λ z. with_slots r (set r.slots i z)) (h ∙ ap (λ m. filled (get_or r.slots i no_slot) m e) (ap (λ g. g.sequence) read.2))
+      ∙ ap (with_slots r) (filled_at e no_slot r.slots i (omega (arith, found.0)) here_slot first_slot)
   filled_here (Err f) y h =
-      ap (λ z. record r { slots = set r.slots i z }) h ∙ ap (λ zs. record r { slots = zs }) (set-get_or r.slots i no_slot)
+      ap (λ z. with_slots r (set r.slots i z)) h ∙ ap (with_slots r) (set-get_or r.slots i no_slot)
 
-  pub met_stale : t ≡ record r { slots = ss } → head.sequence ≤ (get_or r.slots i no_slot).sequence → Met v r (Lodging e) (Err SequenceNotAbove) t
+  pub met_stale : plain_fields t ≡ with_slots r ss → head.sequence ≤ (get_or r.slots i no_slot).sequence → Met v r (Lodging e) (Err SequenceNotAbove) t
   met_stale is low =
       let q = ap (λ x. x.sequence) here in
-      met_open v r t ss _ e _ o is (ap (take r.count) back) (ap (λ zs. record r { slots = zs }) back) (way_stale v r.lot (take r.terms_bytes r.terms) (take r.count r.slots) e head read i found small_here (omega arith))
+      met_open v r t ss _ e _ o is (ap (take r.count) back) (ap (with_slots r) back) (way_stale v r.lot (take r.terms_bytes r.terms) (take r.count r.slots) e head read i found small_here (omega arith))
 
-  pub met_kept : (a : Answer) (y : Slot) → t ≡ record r { slots = set ss i y } → (get_or r.slots i no_slot).sequence < head.sequence → AllBelowBase 256 e
+  met_kept : (a : Answer) (y : Slot) → plain_fields t ≡ with_slots r (set ss i y) → (get_or r.slots i no_slot).sequence < head.sequence → AllBelowBase 256 e
       → a ≡ decided (tag_checks v (get_or ss i no_slot).key (take r.terms_bytes r.terms) head e) head.sequence
       → y ≡ left a (filled (get_or ss i no_slot) head.sequence e) (get_or ss i no_slot) → Met v r (Lodging e) a t
   met_kept a y is high under ha hy =
       let q = ap (λ x. x.sequence) here in
       let there : get_or ss i no_slot ≡ get_or (take r.count r.slots) i no_slot = ap (λ z. get_or z i no_slot) back ∙ sym here in
       met_open v r t (set ss i y) _ e a o is (ap (λ z. take r.count (set z i y)) back ∙ take-set-lt r.count r.slots i y inside)
-      (ap (λ zs. record r { slots = set zs i y }) back ∙ filled_here a y (hy ∙ ap (λ zs. left a (filled (get_or zs i no_slot) head.sequence e) (get_or zs i no_slot)) back))
+      (ap (λ zs. with_slots r (set zs i y)) back ∙ filled_here a y (hy ∙ ap (λ zs. left a (filled (get_or zs i no_slot) head.sequence e) (get_or zs i no_slot)) back))
       (way_kept v r.lot (take r.terms_bytes r.terms) (take r.count r.slots) e head read i found small_here (omega arith) under a y
       (ha ∙ ap (λ x. decided (tag_checks v x.key (take r.terms_bytes r.terms) head e) head.sequence) there) (hy ∙ ap (λ x. left a (filled x head.sequence e) x) there))
+
+-- The same of the bid that was read of the envelope.
+pub met_bid : (v : Variant) (r t : RoomState) (e : Bytes) (b : BidParts) (i : ℕ) (ss : List Slot) → ◌≡◌ {A = Result (Unit {0}) RoomFault} (Ok tt) (admitted r.phase Lodge)
+    → ◌≡◌ {A = Result BidParts RoomFault} (Ok b) (decided (head_checks v r.lot e) (bid_of e)) → IsFirst (take r.count r.slots) b.head.bidder i → ss ≡ r.slots
+    → (get_or r.slots i no_slot).sequence < 2 ^ 32 → (a : Answer) (y : Slot) → plain_fields t ≡ with_slots r (set ss i y) → (get_or r.slots i no_slot).sequence < b.head.sequence
+    → AllBelowBase 256 e → a ≡ decided (bid_checks v (get_or ss i no_slot).key (take r.terms_bytes r.terms) b) b.head.sequence
+    → y ≡ left a (filled_by b (get_or ss i no_slot)) (get_or ss i no_slot) → Met v r (Lodging e) a t
+met_bid v r t e b i ss o read found back small a y is high under ha hy =
+    let p = read_passed v r.lot e b read in
+    let x = get_or ss i no_slot in
+    met_kept v r t e b.head i ss o (head_read v r.lot e b read) found back small a y is high under
+    (ha ∙ ap (λ cs. decided cs b.head.sequence) (checks_of_bid e b p.2 v x.key (take r.terms_bytes r.terms) (omega (arith, p.0)) under))
+    (hy ∙ ap (λ z. left a z x) (filled_by_bid e b p.2 x))
 
 -- Asking leaves the room as it is, and answers the last accepted sequence.
 module _ (v : Variant) (r : RoomState) (b : ℕ) where

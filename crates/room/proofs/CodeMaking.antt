@@ -1,11 +1,13 @@
 -- Facts about registers that rise, and about a room just made.
 use Rattle.std.proofs.Common.{◌≡◌, ◌&&◌, ℕ, zero, suc, ◌+◌, Bool, ltb, leb, sym, subst, add-one, arith, ◌^◌, ◌<◌, ◌≤◌, true, false, List, [], ◌∷◌, map, length, get_or, take, drop, Ok, refl, ap, ◌∙◌, ap₂}
 use Rattle.std.specs.List.{AllByRecursion, IsAllAdjacentAnswer}
+use Rattle.std.specs.List.Sorted.{IsStrictlyIncreasing}
 use Rattle.std.proofs.ByRecursion.{All-push}
-use Rattle.std.proofs.lemmas.Bool.{le-leb, lt-leb, ltb-true, ltb-false}
+use Rattle.std.proofs.lemmas.Bool.{le-leb, lt-leb, ltb-true, ltb-false, and_parts}
 use Rattle.std.proofs.lemmas.List.{take_more, take_at, length-map}
 use Rattle.engine.specs.declared.variants.Variant.{Variant}
 use Rattle.room.specs.Sales.{Bytes}
+use Rattle.room.specs.Rising.{RiseByBidder}
 use Rattle.room.specs.Rooms.{holding_of, contents}
 use Rattle.room.specs.Slots.{new_slot, room_of}
 use Rattle.room.specs.Opening.{written_over}
@@ -14,6 +16,7 @@ use Rattle.room.specs.declared.register.RegisterEntry.{RegisterEntry}
 use Rattle.room.specs.declared.slots.Phase.TheVariants.{Open}
 use Rattle.room.specs.declared.slots.Slot.{Slot}
 use Rattle.room.specs.declared.state.RoomState.{RoomState}
+use Rattle.room.proofs.Pages.{RisesFrom, rises}
 
 -- What a read behind the last entry of a register would give.
 abbrev pub nobody : RegisterEntry
@@ -43,6 +46,25 @@ rises_sorted (x ∷ xs) true a =
 rises_sorted (x ∷ xs) false a =
     rw (le-leb 0 x.bidder (omega arith))
     (sym (falling x xs a.0 (omega (arith, a.1)) (ltb-false _ _ (sym (subst (λ n. false ≡ ltb (get_or (x ∷ xs) a.0 nobody).bidder (get_or (x ∷ xs) n nobody).bidder) (add-one _) (a.2 nobody))))))
+
+-- The bidders of a register that rises, and the slots that making writes.
+rising_bidders : (m : ℕ) (xs : List RegisterEntry) → RisesFrom m xs → IsStrictlyIncreasing (map (λ x. x.bidder) xs)
+rising_bidders m [] h k l = absurd (omega arith)
+rising_bidders m (x ∷ []) h k l = absurd (omega arith)
+rising_bidders m (x ∷ y ∷ ys) h zero l = omega (arith, h.1.0)
+rising_bidders m (x ∷ y ∷ ys) h (suc k) l = rw add-one (subst (λ n. get_or (map (λ z. z.bidder) (y ∷ ys)) k 0 < get_or (map (λ z. z.bidder) (y ∷ ys)) n 0) (add-one k) (rising_bidders (suc x.bidder) (y ∷ ys) h.1 k (omega arith)))
+
+new_bidders : (xs : List RegisterEntry) → map (λ x. x.bidder) (map new_slot xs) ≡ map (λ x. x.bidder) xs
+new_bidders [] = refl
+new_bidders (x ∷ xs) = ap (λ bs. x.bidder ∷ bs) (new_bidders xs)
+
+pub made_rising : (register : List RegisterEntry) (before ss : List Slot) → lawful_register register ≡ true → ss ≡ written_over (map new_slot register) before → RiseByBidder (take (length register) ss)
+made_rising register before ss lawful es =
+    let some = and_parts (leb 1 (length register)) (leb (length register) 64 && rises_from 0 register) lawful in
+    let up = (and_parts (leb (length register) 64) (rises_from 0 register) some.1).1 in
+    let s : take (length register) ss ≡ map new_slot register =
+    ap (take (length register)) es ∙ take_at (map new_slot register) (drop (length (map new_slot register)) before) (length register) (length-map register new_slot) in
+    subst IsStrictlyIncreasing (sym (ap (map (λ x. x.bidder)) s ∙ new_bidders register)) (rising_bidders 0 register (rises 0 register up))
 
 abbrev pub Fits : RegisterEntry → Type 0
 Fits x = x.bidder < 2 ^ 32

@@ -1,5 +1,5 @@
 -- The amount that the envelope of a slot offers, from its parts.
-use Rattle.std.proofs.Common.{◌≡◌, ℕ, cond, ◌++◌, length, take, drop, sym, ap, ◌∙◌}
+use Rattle.std.proofs.Common.{◌≡◌, ℕ, cond, ◌++◌, length, take, drop, Ok, Result, sym, ap, ◌∙◌}
 use Rattle.std.specs.Str.{bytes_eq}
 use Rattle.std.proofs.lemmas.Bool.{ne_eqb}
 use Rattle.std.proofs.lemmas.List.{take_at, drop_at, drop-drop}
@@ -12,6 +12,7 @@ use Rattle.envelope.proofs.HeadLaws.{head_length}
 use Rattle.room.specs.Sales.{Bytes}
 use Rattle.room.specs.Rooms.{envelope_in}
 use Rattle.room.specs.Calls.{amount_held}
+use Rattle.room.specs.declared.faults.RoomFault.{RoomFault}
 use Rattle.room.specs.declared.slots.Slot.{Slot}
 
 module _ (v : Variant) (lot : ℕ) (terms : Bytes) (x : Slot) where
@@ -37,11 +38,11 @@ module _ (v : Variant) (lot : ℕ) (terms : Bytes) (x : Slot) where
     at_tag : end ≡ tag_part kept
     at_tag = sym (sym (drop-drop 64 12 kept) ∙ ap (drop 64) at_rest ∙ drop_at x.letter end 64 long)
 
-    pub amount_kept : (n : ℕ) (nonce place : Bytes) → (x.sequence ≡ 0 → ⊥) → nonce ≡ top → place ≡ end
-        → n ≡ cond (bytes_eq place (tag v x.key nonce terms x.letter)) (amount_offered (opened_text v x.key nonce x.letter)) 0
-        → n ≡ amount_held v x.key terms (envelope_in v lot x)
-    amount_kept n nonce place some en ep h =
+    pub amount_kept : (r : Result ℕ RoomFault) (nonce place : Bytes) → (x.sequence ≡ 0 → ⊥) → nonce ≡ top → place ≡ end
+        → r ≡ Ok (cond (bytes_eq place (tag v x.key nonce terms x.letter)) (amount_offered (opened_text v x.key nonce x.letter)) 0)
+        → r ≡ Ok (amount_held v x.key terms (envelope_in v lot x))
+    amount_kept r nonce place some en ep h =
         let pt : place ≡ tag_part kept = ep ∙ at_tag in
         let ph : nonce ≡ head_part kept = en ∙ at_head in
         rw (ne_eqb x.sequence 0 some)
-        (h ∙ (λ i. cond (bytes_eq (pt i) (tag v x.key (ph i) terms (at_sealed i))) (amount_offered (opened_text v x.key (ph i) (at_sealed i))) 0))
+        (h ∙ (λ i. Ok (cond (bytes_eq (pt i) (tag v x.key (ph i) terms (at_sealed i))) (amount_offered (opened_text v x.key (ph i) (at_sealed i))) 0)))

@@ -1,18 +1,23 @@
 -- Facts about the sheet of slots: one slot more, how long its page can be, and how both are written.
-use Rattle.std.proofs.Common.{◌≡◌, ℕ, suc, ◌+◌, ◌*◌, ◌^◌, ◌<◌, ◌≤◌, Bool, true, false, cond, ltb, List, [], ◌∷◌, ◌++◌, map, length, get_or, take, drop, set, Some, None, Option, sym, refl, ap, ◌∙◌, ap₂, arith}
-use Rattle.std.specs.List.{flat_map, AllByRecursion}
+use Rattle.std.proofs.Common.{◌≡◌, ℕ, suc, ◌+◌, ◌*◌, ◌^◌, ◌<◌, ◌≤◌, Bool, true, false, cond, ltb, List, [], ◌∷◌, ◌++◌, map, length, get_or, take, drop, set, Some, None, Option, Ok, Ordering, Less, sym, refl, ap, ◌∙◌, ap₂, subst, arith}
+use Rattle.std.specs.List.{flat_map, All, AllByRecursion}
 use Rattle.std.specs.Str.{bytes_eq}
 use Rattle.std.proofs.lemmas.Fmt.{length-decimal-le}
-use Rattle.std.proofs.ByRecursion.{All-push}
+use Rattle.std.proofs.ByRecursion.{All-push, All-get_or, All-from_get_or}
 use Rattle.std.proofs.lemmas.Bool.{lt-ltb, le-ltb, ltb-true, ltb-false}
-use Rattle.std.proofs.lemmas.List.{take_at, drop_more, set_at, append_assoc, append-nil, length-append, map_more, take_more}
+use Rattle.std.proofs.lemmas.List.{take_at, drop_more, set_at, append_assoc, append-nil, length-append, map_more, take_more, get_or-map, get_or-take, length-map, length-take-le}
+use Rattle.std.proofs.lemmas.List.Kept.{AllPairs-from_increasing}
 use Rattle.engine.specs.declared.variants.Variant.{Variant}
 use Rattle.cipher.specs.Mode.{tag, opened_text}
 use Rattle.envelope.specs.Letters.{amount_offered}
 use Rattle.envelope.specs.Envelopes.{head_part, sealed_part, tag_part}
 use Rattle.envelope.proofs.Laws.{amount_in_le}
+use Rattle.list.specs.Order.{by_key}
+use Rattle.list.specs.Insertion.{answer_of, places_after}
+use Rattle.list.proofs.Laws.{last_not_refused, last_placed, before_by_key}
 use Rattle.room.specs.Sales.{Bytes}
 use Rattle.room.specs.Page.{line, page}
+use Rattle.room.specs.Rising.{RiseByBidder}
 use Rattle.room.specs.Rooms.{Holding, Contents, envelope_in, holding_of}
 use Rattle.room.proofs.CodeSlots.{no_slot}
 use Rattle.room.specs.Calls.{amount_held, amount_of_holding, listed}
@@ -61,6 +66,40 @@ module _ (v : Variant) (lot : ℕ) (terms : Bytes) where
           → length (cond t (record { bidder = x.bidder; amount = offered x } ∷ sheet_in v lot terms xs) (sheet_in v lot terms xs)) ≤ suc (length xs)
       go true h = omega arith
       go false h = omega arith
+
+-- What is taken of a place that was written over.
+pub over_taken : {X : Type 0} (s old new : List X) (n : ℕ) → n ≡ length s → new ≡ written_over s old → take n new ≡ s
+over_taken s old new n en e = ap₂ take en e ∙ take_at s (drop (length s) old) (length s) refl
+
+-- Among slots that rise, those in front of a slot have lower bidders.
+front_below : (xs : List Slot) (i : ℕ) → RiseByBidder xs → i < length xs → AllByRecursion (λ x. x.bidder < (get_or xs i no_slot).bidder) (take i xs)
+front_below xs i up l =
+    All-from_get_or (λ x. x.bidder < (get_or xs i no_slot).bidder) (take i xs) no_slot
+    (λ k w.
+    let long = length-take-le i xs (omega arith) in
+    let at_k : get_or (map (λ x. x.bidder) xs) k 0 ≡ (get_or (take i xs) k no_slot).bidder =
+    get_or-map (λ x. x.bidder) xs k no_slot 0 (omega arith) ∙ ap (λ x. x.bidder) (sym (get_or-take i xs k no_slot (omega arith))) in
+    let at_i = get_or-map (λ x. x.bidder) xs i no_slot 0 l in
+    let below = AllPairs-from_increasing (map (λ x. x.bidder) xs) up k i 0 (omega arith) (omega (arith, length-map xs (λ x. x.bidder))) in
+    omega arith)
+
+-- So the entries on their sheet have lower bidders too, and the slot's own comes last.
+below_on_sheet : (v : Variant) (lot : ℕ) (terms : Bytes) (b : ℕ) (xs : List Slot) → AllByRecursion (λ x. x.bidder < b) xs → AllByRecursion (λ x. x.bidder < b) (sheet_in v lot terms xs)
+below_on_sheet v lot terms b [] h = tt
+below_on_sheet v lot terms b (x ∷ xs) h = go (ltb 0 (offered v lot terms x)) (below_on_sheet v lot terms b xs h.1)
+  where
+    go : (t : Bool) → AllByRecursion (λ y. y.bidder < b) (sheet_in v lot terms xs)
+        → AllByRecursion (λ y. y.bidder < b) (cond t (record { bidder = x.bidder; amount = offered v lot terms x } ∷ sheet_in v lot terms xs) (sheet_in v lot terms xs))
+    go true s = (h.0, s)
+    go false s = s
+
+pub comes_last : (v : Variant) (lot : ℕ) (terms : Bytes) (xs : List Slot) (i n b : ℕ) (sheet old : List SheetEntry) → RiseByBidder xs → i < length xs → b ≡ (get_or xs i no_slot).bidder
+    → n ≡ length (sheet_in v lot terms (take i xs)) → sheet ≡ written_over (sheet_in v lot terms (take i xs)) old → All (λ x. x.bidder < b) (take n sheet)
+comes_last v lot terms xs i n b sheet old up l eb en es =
+    let s = sheet_in v lot terms (take i xs) in
+    let below = below_on_sheet v lot terms (get_or xs i no_slot).bidder (take i xs) (front_below xs i up l) in
+    let P : List SheetEntry → Type 0 = λ zs. All (λ x. x.bidder < b) zs in
+    subst P (sym (over_taken s old sheet n en es)) (λ k d w. let m = All-get_or (λ x. x.bidder < (get_or xs i no_slot).bidder) s k d w below in omega arith)
 
 pub over_push : {X : Type 0} (s old : List X) (n : ℕ) (y : X) → n ≡ length s → n < length old → set (written_over s old) n y ≡ written_over (s ++ (y ∷ [])) old
 over_push s old n y e h =
@@ -140,6 +179,19 @@ page_fits v lot terms xs h few all =
     let c = page_length lot (sheet_in v lot terms xs) in
     omega arith
 
--- What is taken of a place that was written over.
-pub over_taken : {X : Type 0} (s old new : List X) (n : ℕ) → n ≡ length s → new ≡ written_over s old → take n new ≡ s
-over_taken s old new n en e = ap₂ take en e ∙ take_at s (drop (length s) old) (length s) refl
+-- An entry of an amount above 0 that comes after all others on the sheet: the list grants it the next place.
+module _ (ps : List SheetEntry) (n : ℕ) (x : SheetEntry) (room : n < length ps) (last : All (λ y. y.bidder < x.bidder) (take n ps)) where
+  abbrev by_bidder : SheetEntry → SheetEntry → Ordering
+  by_bidder = by_key (λ y. y.bidder)
+
+  before : (k : ℕ) (d : SheetEntry) → k < n → by_bidder (get_or ps k d) x ≡ Less
+  before k d l =
+      let w = length-take-le n ps (omega arith) in
+      let e = ap (λ y. y.bidder) (get_or-take n ps k d l) in
+      before_by_key (λ y. y.bidder) (get_or ps k d) x (omega (arith, last k d (omega arith)))
+
+  pub granted_next : answer_of by_bidder x ps n ≡ Ok (n + 1)
+  granted_next = rw (last_not_refused by_bidder x ps n room before) refl
+
+  pub placed_next : places_after by_bidder x ps n ≡ set ps n x
+  placed_next = last_placed by_bidder x ps n room before

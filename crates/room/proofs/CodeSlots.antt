@@ -1,8 +1,10 @@
 -- Facts about the slots of a room: the first slot of a bidder, and the envelope that a slot keeps.
-use Rattle.std.proofs.Common.{◌≡◌, ℕ, zero, suc, ◌+◌, ◌^◌, ◌<◌, ◌≤◌, Bool, true, false, cond, eqb, List, [], ◌∷◌, ◌++◌, map, length, get_or, take, drop, set, Some, None, sym, refl, ap, ◌∙◌, ap₂, add-one, arith}
+use Rattle.std.proofs.Common.{◌≡◌, ℕ, zero, suc, ◌+◌, ◌^◌, ◌<◌, ◌≤◌, Bool, true, false, cond, eqb, List, [], ◌∷◌, ◌++◌, map, length, get_or, take, drop, set, Some, None, Ok, Err, Result, sym, refl, ap, ◌∙◌, subst, ap₂, add-one, arith}
 use Rattle.std.specs.Int.Digits.{AllBelowBase}
+use Rattle.std.specs.List.Sorted.{IsStrictlyIncreasing}
 use Rattle.std.proofs.lemmas.Bool.{ne_eqb, eq-eqb, eqb-true}
-use Rattle.std.proofs.lemmas.List.{take_at, drop-drop, take-append-drop, length-drop}
+use Rattle.std.proofs.lemmas.List.{take_at, drop-drop, take-append-drop, length-drop, map-set, set-get_or, take-map}
+use Rattle.fault.specs.Checks.{left}
 use Rattle.engine.specs.declared.variants.Variant.{Variant}
 use Rattle.cipher.specs.Mode.{tag_size}
 use Rattle.envelope.specs.Heads.{head, lot_of, bidder_of, sequence_of}
@@ -10,6 +12,9 @@ use Rattle.envelope.specs.Envelopes.{envelope_size, sealed_part, tag_part}
 use Rattle.envelope.proofs.HeadLaws.{sequence_back}
 use Rattle.envelope.proofs.Laws.{head_back}
 use Rattle.room.specs.Sales.{Bytes, registered, key_of}
+use Rattle.envelope.specs.Parts.{BidParts}
+use Rattle.room.specs.Reading.{filled_by}
+use Rattle.room.specs.Rising.{RiseByBidder}
 use Rattle.room.specs.Rooms.{entry_of, kept_for, sequence_in, accepted, filled, filled_in, envelope_in, holding_of}
 use Rattle.room.specs.Slots.{new_slot, HasNone}
 use Rattle.room.specs.declared.register.RegisterEntry.{RegisterEntry}
@@ -84,3 +89,20 @@ slots_suc (r ∷ rs) (x ∷ d) (suc i) z l m = ap (λ ys. new_slot r ∷ ys) (sl
 pub slots_more : (rs : List RegisterEntry) (d : List Slot) (i : ℕ) (z : RegisterEntry) → i < length rs → length rs ≤ length d
     → set (map new_slot (take i rs) ++ drop i d) i (new_slot (get_or rs i z)) ≡ map new_slot (take (i + 1) rs) ++ drop (i + 1) d
 slots_more rs d i z l m = rw add-one (slots_suc rs d i z l m)
+
+-- Slots that rise do so after one of them is written with the same bidder.
+module _ (n i : ℕ) (y : Slot) (xs : List Slot) (same : y.bidder ≡ (get_or xs i no_slot).bidder) where
+  abbrev bidder : Slot → ℕ
+  bidder x = x.bidder
+
+  same_bidders : map bidder (set xs i y) ≡ map bidder xs
+  same_bidders =
+      map-set bidder xs i y ∙ ap (set (map bidder xs) i) same ∙ sym (map-set bidder xs i (get_or xs i no_slot)) ∙ ap (map bidder) (set-get_or xs i no_slot)
+
+  pub still_rise : RiseByBidder (take n xs) → RiseByBidder (take n (set xs i y))
+  still_rise = subst IsStrictlyIncreasing (sym (take-map bidder n xs) ∙ ap (take n) (sym same_bidders) ∙ take-map bidder n (set xs i y))
+
+-- Whether a bid is kept in a slot or not, its bidder is the same.
+pub same_bidder : {F : Type 0} (a : Result ℕ F) (x y : Slot) (b : BidParts) → y ≡ left a (filled_by b x) x → y.bidder ≡ x.bidder
+same_bidder (Ok m) x y b h = ap (λ z. z.bidder) h
+same_bidder (Err f) x y b h = ap (λ z. z.bidder) h

@@ -1,14 +1,16 @@
 -- A room of lot 17 with four bidders, in which their standing amounts are those of the page in the documents.
 use Rattle.std.proofs.Common.{◌≡◌, ℕ, zero, suc, ◌<◌, ◌≤◌, List, [], ◌∷◌, map, length, get_or, take, set, replicate, Some, Ok, sym, refl, ap, ◌∙◌, subst, inl, arith}
 use Rattle.std.specs.List.{AllByRecursion}
+use Rattle.std.specs.List.Sorted.{IsStrictlyIncreasing}
 use Rattle.std.proofs.lemmas.List.{get_or-take}
 use Rattle.std.proofs.Math.Seq.{take-set-lt}
 use Rattle.fault.specs.Checks.{left}
 use Rattle.engine.specs.declared.variants.Variant.{Variant}
 use Rattle.envelope.specs.Heads.{bidder_of, sequence_of}
 use Rattle.room.specs.Sales.{Bytes, Genuine}
+use Rattle.room.specs.Rising.{RiseByBidder}
 use Rattle.room.specs.Rooms.{Holding, entry_of, kept_for, sequence_in, accepted, filled, envelope_in, holding_of, contents}
-use Rattle.room.specs.Calls.{Lodging, Closing, Met, answer_to, holding}
+use Rattle.room.specs.Calls.{Lodging, Closing, PlainFields, plain_fields, Met, answer_to, holding}
 use Rattle.room.specs.Making.{Made}
 use Rattle.room.specs.Runs.{met, none, more, History, sale, envelopes, Stands}
 use Rattle.room.specs.Promise.{Sealed}
@@ -34,8 +36,8 @@ abbrev register : List RegisterEntry
 register = entry 3 ∷ entry 5 ∷ entry 8 ∷ entry 9 ∷ []
 
 -- The place with these slots, of which four are in use.
-abbrev room : Phase → List Slot → RoomState
-room p ss = record {
+abbrev room : Phase → (ss : List Slot) → RiseByBidder (take 4 ss) → RoomState
+room p ss rising = record {
   phase = p;
   lot = 17;
   terms = replicate 64 0;
@@ -44,10 +46,18 @@ room p ss = record {
   count = 4;
   short = omega arith;
   few = omega arith;
+  rising = rising;
 }
 
 abbrev slots : Slot → Slot → Slot → Slot → List Slot
 slots a b c d = a ∷ b ∷ c ∷ d ∷ replicate 60 (vacant 0)
+
+-- The four bidders rise.
+in_order : IsStrictlyIncreasing (3 ∷ 5 ∷ 8 ∷ 9 ∷ [])
+in_order zero l = omega arith
+in_order (suc zero) l = omega arith
+in_order (suc (suc zero)) l = omega arith
+in_order (suc (suc (suc k))) l = absurd (omega arith)
 
 -- Each of the first slots has a lower bidder.
 earlier : (xs : List Slot) (i k b : ℕ) → AllByRecursion (λ x. x.bidder < b) (take i xs) → k < i → i ≤ length xs → (get_or xs k no_slot).bidder < b
@@ -63,7 +73,8 @@ module _ (v : Variant) where
   -- The first bid of a bidder is taken: it stands at place i, and the bidders before it are lower.
   module _ (w x y z : Slot) (same : map entry_of (held (w ∷ x ∷ y ∷ z ∷ [])) ≡ register) (b n amount i : ℕ) (l : i < 4)
       (at : get_or (w ∷ x ∷ y ∷ z ∷ []) i no_slot ≡ vacant b) (low : AllByRecursion (λ s. s.bidder < b) (take i (w ∷ x ∷ y ∷ z ∷ [])))
-      (up : 1 ≤ n) (q : Sealed (sale_with v register) 17 b n (bid_of v b n amount)) where
+      (up : 1 ≤ n) (q : Sealed (sale_with v register) 17 b n (bid_of v b n amount))
+      (rising : RiseByBidder (w ∷ x ∷ y ∷ z ∷ [])) (still : RiseByBidder (take 4 (set (slots w x y z) i (kept v b n amount (replicate 16 0))))) where
     abbrev xs : List Slot
     xs = w ∷ x ∷ y ∷ z ∷ []
 
@@ -71,7 +82,10 @@ module _ (v : Variant) where
     e = bid_of v b n amount
 
     abbrev before : RoomState
-    before = room Open (slots w x y z)
+    before = room Open (slots w x y z) rising
+
+    abbrev over : List Slot → PlainFields
+    over ss = record (plain_fields before) { slots = ss }
 
     abbrev slot : Slot
     slot = kept v b n amount (replicate 16 0)
@@ -105,7 +119,7 @@ module _ (v : Variant) where
         ap (λ k. record { bidder = b; key = key; envelope = k }) (kept_is_bid v b n amount (replicate 16 0) up)
         ∙ ap (λ s. record { bidder = s.bidder; key = s.key; envelope = Some e }) (sym at)
 
-    pub takes : Met v before (Lodging e) (Ok n) (room Open (set (slots w x y z) i slot))
+    pub takes : Met v before (Lodging e) (Ok n) (room Open (set (slots w x y z) i slot) still)
     takes = record {
       answers = sym granted;
       leaves =
@@ -114,8 +128,8 @@ module _ (v : Variant) where
           ∙ sym (ap (λ a. left a (holding (accepted e (held xs)) (contents v before)) (contents v before)) granted);
       place =
           let there : (k : ℕ) → k < 4 → get_or xs k no_slot ≡ get_or (slots w x y z) k no_slot = λ k m. get_or-take 4 (slots w x y z) k no_slot m in
-          ap (λ s. room Open (set (slots w x y z) i s)) (is_filled ∙ ap (λ s. filled s (sequence_of e) e) (there i l))
-          ∙ ap (room Open) (filled_at e no_slot (slots w x y z) i (omega arith) (ap (λ s. s.bidder) (sym (there i l)) ∙ here)
+          ap (λ s. over (set (slots w x y z) i s)) (is_filled ∙ ap (λ s. filled s (sequence_of e) e) (there i l))
+          ∙ ap over (filled_at e no_slot (slots w x y z) i (omega arith) (ap (λ s. s.bidder) (sym (there i l)) ∙ here)
           (λ k m h. first k m (ap (λ s. s.bidder) (there k (omega arith)) ∙ h)));
     }
 
@@ -143,7 +157,7 @@ module _ (v : Variant) where
   sealed_9 : Sealed (sale_with v register) 17 9 4 (bid_of v 9 4 0)
   sealed_9 = sealed_by v register 9 4 0 refl refl (omega arith) (omega arith) (omega arith)
 
-  abbrev made_so : Made 17 [] register (room Closed (slots (vacant 3) (vacant 5) (vacant 8) (vacant 9))) (Ok tt) (room Open (slots (vacant 3) (vacant 5) (vacant 8) (vacant 9)))
+  abbrev made_so : Made 17 [] register (room Closed (slots (vacant 3) (vacant 5) (vacant 8) (vacant 9)) in_order) (Ok tt) (room Open (slots (vacant 3) (vacant 5) (vacant 8) (vacant 9)) in_order)
   made_so = record {
     answers = refl;
     leaves = λ w. refl;
@@ -158,17 +172,17 @@ module _ (v : Variant) where
     lot = 17;
     terms = [];
     register = register;
-    before = room Closed (slots (vacant 3) (vacant 5) (vacant 8) (vacant 9));
-    start = room Open (slots (vacant 3) (vacant 5) (vacant 8) (vacant 9));
+    before = room Closed (slots (vacant 3) (vacant 5) (vacant 8) (vacant 9)) in_order;
+    start = room Open (slots (vacant 3) (vacant 5) (vacant 8) (vacant 9)) in_order;
     meetings = met (Lodging (bid_of v 3 1 250000)) (Ok 1) ∷ met (Lodging (bid_of v 5 2 250000)) (Ok 2) ∷ met (Lodging (bid_of v 8 3 310000)) (Ok 3)
         ∷ met (Lodging (bid_of v 9 4 0)) (Ok 4) ∷ met Closing (Ok 0) ∷ [];
-    room = room Closed (slots at_3 at_5 at_8 at_9);
+    room = room Closed (slots at_3 at_5 at_8 at_9) in_order;
     made = made_so;
     runs =
-        more (takes (vacant 3) (vacant 5) (vacant 8) (vacant 9) refl 3 1 250000 0 (omega arith) refl tt (omega arith) sealed_3)
-        (more (takes at_3 (vacant 5) (vacant 8) (vacant 9) refl 5 2 250000 1 (omega arith) refl (omega arith, tt) (omega arith) sealed_5)
-        (more (takes at_3 at_5 (vacant 8) (vacant 9) refl 8 3 310000 2 (omega arith) refl (omega arith, (omega arith, tt)) (omega arith) sealed_8)
-        (more (takes at_3 at_5 at_8 (vacant 9) refl 9 4 0 3 (omega arith) refl (omega arith, (omega arith, (omega arith, tt))) (omega arith) sealed_9)
+        more (takes (vacant 3) (vacant 5) (vacant 8) (vacant 9) refl 3 1 250000 0 (omega arith) refl tt (omega arith) sealed_3 in_order in_order)
+        (more (takes at_3 (vacant 5) (vacant 8) (vacant 9) refl 5 2 250000 1 (omega arith) refl (omega arith, tt) (omega arith) sealed_5 in_order in_order)
+        (more (takes at_3 at_5 (vacant 8) (vacant 9) refl 8 3 310000 2 (omega arith) refl (omega arith, (omega arith, tt)) (omega arith) sealed_8 in_order in_order)
+        (more (takes at_3 at_5 at_8 (vacant 9) refl 9 4 0 3 (omega arith) refl (omega arith, (omega arith, (omega arith, tt))) (omega arith) sealed_9 in_order in_order)
         (more (record { answers = refl; leaves = refl; place = refl }) none))));
   }
 

@@ -1,6 +1,7 @@
 pub mod CodePages
 pub mod CodeChecks
 pub mod CodeSlots
+pub mod CodeReading
 pub mod CodeLodging
 pub mod CodeMaking
 pub mod CodeTags

@@ -8,7 +8,7 @@ use Rattle.envelope.specs.Heads.{lot_of, bidder_of, sequence_of}
 use Rattle.envelope.specs.Envelopes.{envelope_size}
 use Rattle.room.specs.Sales.{Bytes, Sale, Genuine, registered}
 use Rattle.room.specs.Rooms.{Holding, kept_for, sequence_in, accepted, filled as kept_in, filled_in, envelope_in, holding_of, contents}
-use Rattle.room.specs.Calls.{Lodging, Closing, Met, answer_to, holding}
+use Rattle.room.specs.Calls.{Lodging, Closing, PlainFields, plain_fields, Met, answer_to, holding}
 use Rattle.room.specs.Making.{Made}
 use Rattle.room.specs.Runs.{Meeting, Runs, History}
 use Rattle.room.specs.Promise.{Sealed}
@@ -41,6 +41,7 @@ room p x = record {
   count = 1;
   short = omega arith;
   few = omega arith;
+  rising = λ k l. absurd (omega arith);
 }
 
 -- The first three checks pass, and the fourth fails.
@@ -92,8 +93,8 @@ module _ (v : Variant) where
       held = holding_of v 17 x ∷ []
 
       -- The place with other slots.
-      abbrev room_over : List Slot → RoomState
-      room_over xs = record (room Open x) { slots = xs }
+      abbrev room_over : List Slot → PlainFields
+      room_over xs = record (plain_fields (room Open x)) { slots = xs }
 
       abbrev others : List Slot
       others = replicate 63 blank

@@ -16,6 +16,7 @@ use Rattle.room.specs.declared.faults.RoomFault.TheVariants.{Closed, EnvelopeLen
 use Rattle.room.specs.declared.sheet.SheetEntry.{SheetEntry}
 use Rattle.room.specs.declared.slots.Phase.{Phase}
 use Rattle.room.specs.declared.slots.Phase.TheVariants.{Open as PhaseOpen, Closed as PhaseClosed}
+use Rattle.room.specs.declared.slots.Slot.{Slot}
 use Rattle.room.specs.declared.state.RoomState.{RoomState}
 
 -- How much is lent to an opening: places for sheet entries, bytes for the page, bytes to work in.
@@ -120,9 +121,22 @@ room_after r (Asking b) = r
 room_after r Closing = left (answer_to r Closing) (closed r) r
 room_after r (Opening o) = r
 
+-- All that a place is made of, used parts and unused. (That its counts are within its arrays and that its slots rise follows for every place.)
+pub record PlainFields : Type 0 where
+  pub phase : Phase
+  pub lot : ℕ
+  pub terms : Bytes
+  pub terms_bytes : ℕ
+  pub slots : List Slot
+  pub count : ℕ
+
+abbrev pub plain_fields : RoomState → PlainFields
+plain_fields s =
+    record { phase = s.phase; lot = s.lot; terms = s.terms; terms_bytes = s.terms_bytes; slots = s.slots; count = s.count }
+
 -- The place that a call leaves, used parts and unused: a granted lodging fills one slot, a granted closing ends the phase, and nothing else
 -- changes a place. So a refusal changes nothing.
-abbrev pub place_after : RoomState → Call → Answer → RoomState
+abbrev pub place_after : PlainFields → Call → Answer → PlainFields
 place_after s (Lodging e) a = left a (record s { slots = filled_in e s.slots }) s
 place_after s (Asking b) a = s
 place_after s Closing a = left a (record s { phase = PhaseClosed }) s
@@ -133,4 +147,4 @@ place_after s (Opening o) a = s
 pub record Met (v : Variant) (before : RoomState) (c : Call) (a : Answer) (after : RoomState) : Type 0 where
   pub answers : a ≡ answer_to (contents v before) c
   pub leaves : contents v after ≡ room_after (contents v before) c
-  pub place : after ≡ place_after before c a
+  pub place : plain_fields after ≡ place_after (plain_fields before) c a

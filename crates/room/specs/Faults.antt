@@ -1,12 +1,13 @@
--- What each fault of a room tells: its number, its layer and its place. A fault of the cipher is held whole.
+-- What each fault of a room tells: its number, its layer and its place. Faults of the cipher and of the list are held whole.
 use Rattle.std.specs.Prelude.{ℕ}
 use Rattle.fault.specs.declared.Layer.{Layer}
 use Rattle.fault.specs.declared.Layer.TheVariants.{Room}
 use Rattle.fault.specs.declared.Place.{Place}
 use Rattle.fault.specs.declared.Place.TheVariants.{Zero, Head}
 use Rattle.cipher.specs.Faults.{fault_number as cipher_number}
+use Rattle.list.specs.Faults.{fault_number as list_number}
 use Rattle.room.specs.declared.faults.RoomFault.{RoomFault}
-use Rattle.room.specs.declared.faults.RoomFault.TheVariants.{TermsLength, Register, Closed, EnvelopeLength, OtherLot, UnknownBidder, SequenceNotAbove, WrongTag, NotClosed, Places, Cipher}
+use Rattle.room.specs.declared.faults.RoomFault.TheVariants.{TermsLength, Register, Closed, EnvelopeLength, OtherLot, UnknownBidder, SequenceNotAbove, WrongTag, NotClosed, Places, Cipher, List}
 
 abbrev pub fault_number : RoomFault → ℕ
 fault_number TermsLength = 15
@@ -20,6 +21,7 @@ fault_number (WrongTag bidder sequence cause) = cipher_number cause
 fault_number NotClosed = 13
 fault_number Places = 14
 fault_number (Cipher f) = cipher_number f
+fault_number (List f) = list_number f
 
 abbrev pub fault_layer : RoomFault → Layer
 fault_layer f = Room
@@ -37,3 +39,4 @@ fault_place (WrongTag bidder sequence cause) = Head bidder sequence
 fault_place NotClosed = Zero
 fault_place Places = Zero
 fault_place (Cipher f) = Zero
+fault_place (List f) = Zero

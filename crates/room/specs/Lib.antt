@@ -2,10 +2,12 @@ pub mod Faults
 pub mod Sales
 pub mod Page
 pub mod Places
+pub mod Rising
 pub mod Rooms
 pub mod Calls
 pub mod Admission
 pub mod Slots
+pub mod Reading
 pub mod Making
 pub mod Opening
 pub mod Runs

@@ -2,18 +2,19 @@
 ghost use Rattle.std.specs.Prelude.{◌≡◌, length};
 ghost use Rattle.fault.specs.Checks.{decided, left};
 ghost use Rattle.engine.specs.declared.variants.Variant.{Variant as Kind};
-ghost use Rattle.envelope.specs.Envelopes.{envelope_size};
-ghost use Rattle.room.specs.Rooms.{filled};
-ghost use Rattle.room.specs.Calls.{Lodging, Asking, Closing, Met, without_number, head_checks, tag_checks, fields_of};
+ghost use Rattle.cipher.specs.Mode.{tag_size};
+ghost use Rattle.envelope.specs.Parts.{bid_seen, bid_of};
+ghost use Rattle.room.specs.Calls.{Lodging, Asking, Closing, Met, without_number, head_checks};
+ghost use Rattle.room.specs.Reading.{bid_read, bid_checks, filled_by};
 
 use crate::admission::Op;
 use crate::conditions::Conditions;
 use crate::faults::RoomFault;
 use crate::slots::{Phase, Slot, place_of};
 use crate::state::RoomState;
-use cipher::{KEY_BYTES, check};
+use cipher::{CipherFault, KEY_BYTES, check};
 use engine::Engine;
-use envelope::{HEAD_BYTES, HeadFields, LETTER_BYTES, envelope_bytes, parts_of};
+use envelope::{HeadFields, LETTER_BYTES, SealedBid, head_of, parts_of};
 
 impl RoomState {
     // Lodges an envelope, and answers its sequence.
@@ -26,13 +27,13 @@ impl RoomState {
             lot: self.lot,
             terms: &self.terms[..self.terms_bytes],
         };
-        let head = conditions.read_head(envelope)?;
-        let i = place_of(&self.slots[..self.count], head.bidder)?;
+        let bid = conditions.read(envelope)?;
+        let i = place_of(&self.slots[..self.count], bid.head.bidder)?;
         let Slot { sequence: last, .. } = &self.slots[i];
-        if head.sequence <= *last {
+        if bid.head.sequence <= *last {
             return Err(RoomFault::SequenceNotAbove);
         }
-        conditions.keep(&mut self.slots[i], head, envelope)
+        conditions.keep(&mut self.slots[i], bid)
     }
 
     // The last accepted sequence of a bidder.
@@ -57,50 +58,57 @@ impl RoomState {
 }
 
 impl<E: Engine> Conditions<'_, E> {
-    // What the head of an envelope says, if the envelope has the variant's length and is for the lot.
-    fn read_head(&self, envelope: &[u8]) -> Result<HeadFields, RoomFault>
-        ensures { result ≡ decided (head_checks (E.kind self.now.engine.now) self.now.lot envelope.now) (fields_of envelope.now) }
+    // The bid in an envelope, if the envelope has the variant's length and is for the lot.
+    fn read<'a>(&self, envelope: &'a [u8]) -> Result<SealedBid<'a>, RoomFault>
+        ensures { let v = E.kind self.now.engine.now in
+            bid_read result ≡ decided (head_checks v self.now.lot envelope.now) (bid_of envelope.now) }
     {
-        if envelope.len() != envelope_bytes(self.engine.variant()) {
-            return Err(RoomFault::EnvelopeLength);
-        }
-        let parts = parts_of(envelope).ok_or(RoomFault::EnvelopeLength)?;
-        if parts.head.lot != self.lot {
+        let variant = self.engine.variant();
+        let bid = parts_of(envelope)
+            .and_then(|parts| parts.sealed_bid(variant))
+            .ok_or(RoomFault::EnvelopeLength)?;
+        if bid.head.lot != self.lot {
             return Err(RoomFault::OtherLot);
         }
-        Ok(parts.head)
+        Ok(bid)
     }
 
-    // Keeps an envelope in its bidder's slot, where its tag is right.
-    fn keep(&self, slot: &mut Slot, head: HeadFields, envelope: &[u8]) -> Result<u32, RoomFault>
-        requires { length envelope.now ≡ envelope_size (E.kind self.now.engine.now) }
-        ensures answer { result ≡ decided (tag_checks (E.kind self.now.engine.now) slot.old.key self.now.terms.now head envelope.now) head.sequence }
-        ensures slot { slot.new ≡ left result (filled slot.old head.sequence envelope.now) slot.old }
+    // Keeps a bid in its bidder's slot, where its tag is right.
+    fn keep(&self, slot: &mut Slot, bid: SealedBid) -> Result<u32, RoomFault>
+        requires { length bid.tag.now ≡ tag_size (E.kind self.now.engine.now) }
+        ensures answer { let v = E.kind self.now.engine.now in let b = bid_seen bid.entry in
+            result ≡ decided (bid_checks v slot.old.key self.now.terms.now b) b.head.sequence }
+        ensures slot { slot.new ≡ left result (filled_by (bid_seen bid.entry) slot.old) slot.old }
     {
-        self.check_tag(&slot.key, head, envelope)?;
-        slot.fill(head.sequence, envelope);
+        let SealedBid { head, letter, tag } = bid;
+        self.check_tag(&slot.key, head, letter, tag)?;
+        slot.fill(head.sequence, letter, tag);
         Ok(head.sequence)
     }
 
-    // Refuses an envelope with a wrong tag.
+    // Refuses a letter with a wrong tag. Any other fault of the cipher is passed up by `?`, though none comes at these sizes.
     fn check_tag(
         &self,
         key: &[u8; KEY_BYTES],
         head: HeadFields,
-        envelope: &[u8],
+        letter: &[u8; LETTER_BYTES],
+        tag: &[u8],
     ) -> Result<(), RoomFault>
-        requires { length envelope.now ≡ envelope_size (E.kind self.now.engine.now) }
-        ensures { result ≡ decided (tag_checks (E.kind self.now.engine.now) key.now self.now.terms.now head envelope.now) tt }
+        requires { length tag.now ≡ tag_size (E.kind self.now.engine.now) }
+        ensures { let v = E.kind self.now.engine.now in
+            result ≡ decided (bid_checks v key.now self.now.terms.now
+            (record { head = head; letter = letter.now; tag = tag.now })) tt }
     {
-        let (nonce, rest) = envelope.split_at(HEAD_BYTES);
-        let (letter, tag) = rest.split_at(LETTER_BYTES);
-        let text = check(self.engine, key, nonce, self.terms, letter, tag).map_err(
-            |cause| RoomFault::WrongTag {
-                bidder: head.bidder,
-                sequence: head.sequence,
-                cause,
-            },
-        )?;
+        let text = match check(self.engine, key, &head_of(head), self.terms, letter, tag) {
+            Err(cause @ CipherFault::WrongTag) => {
+                return Err(RoomFault::WrongTag {
+                    bidder: head.bidder,
+                    sequence: head.sequence,
+                    cause,
+                });
+            }
+            checked => checked?,
+        };
         let _ = text.into_sealed();
         Ok(())
     }

@@ -2,7 +2,7 @@
 ghost use Rattle.std.specs.Prelude.{◌≡◌};
 ghost use Rattle.room.specs.Calls.{Lodging, Asking, Closing, Met, without_number};
 ghost use Rattle.room.specs.Making.{Made};
-ghost use Rattle.room.specs.Opening.{Opened};
+ghost use Rattle.room.specs.Opening.{Lent, Opened};
 
 use crate::admission::Op;
 use crate::faults::RoomFault;
@@ -13,16 +13,17 @@ use crate::sheet::SheetEntry;
 use crate::state::RoomState;
 use engine::Engine;
 
-// It is put together by writing both fields. Over a fresh place it is a closed room of lot 0 without bidders, until it is made.
+/// A room. It is put together by writing both fields. Over a fresh place it is a closed room of lot 0 without bidders, until it is made.
 #[derive(Drop)]
 pub struct Room<'r, E: Engine + Drop> {
     pub inner: &'r mut RoomState,
     pub engine: E,
 }
 
-// That engine and place stay is said at each call that may change the room: a `&mut` says of neither that it is the same afterwards.
+// That engine and place stay is said at each call that takes a `&mut`, which says of neither that it is the same afterwards. Asking and opening
+// take a `&`: they change nothing of a room.
 impl<'r, E: Engine + Drop> Room<'r, E> {
-    // Makes the room: it is open afterwards, and nothing is lodged yet. A refusal leaves the place as it was.
+    /// Makes the room: it is open afterwards, and nothing is lodged yet. A refusal leaves the place as it was.
     pub fn make(
         &mut self,
         lot: u32,
@@ -36,7 +37,7 @@ impl<'r, E: Engine + Drop> Room<'r, E> {
         self.inner.make(lot, terms, register)
     }
 
-    // Lodges an envelope, and answers its sequence.
+    /// Lodges an envelope, and answers its sequence.
     pub fn lodge(&mut self, envelope: &[u8]) -> Result<u32, RoomFault>
         ensures meets { Met (E.kind self.old.engine) self.old.inner.now (Lodging envelope.now) result self.new.inner.now }
         ensures engine { self.new.engine ≡ self.old.engine }
@@ -45,14 +46,14 @@ impl<'r, E: Engine + Drop> Room<'r, E> {
         self.inner.lodge(&self.engine, envelope)
     }
 
-    // The last accepted sequence of a bidder, 0 at first.
+    /// The last accepted sequence of a bidder, 0 at first.
     pub fn ask(&self, bidder: u32) -> Result<u32, RoomFault>
         ensures meets { Met (E.kind self.now.engine) self.now.inner.now (Asking bidder) result self.now.inner.now }
     {
         self.inner.ask(bidder)
     }
 
-    // Ends lodging.
+    /// Ends lodging.
     pub fn close(&mut self) -> Result<(), RoomFault>
         ensures meets { Met (E.kind self.old.engine) self.old.inner.now Closing (without_number result) self.new.inner.now }
         ensures engine { self.new.engine ≡ self.old.engine }
@@ -61,22 +62,24 @@ impl<'r, E: Engine + Drop> Room<'r, E> {
         self.inner.close()
     }
 
-    // Opens all that was lodged: lists each bidder whose amount is above 0 on the sheet, writes the page, and answers its length. The work
-    // area is all zero afterwards, granted or refused. The three places are lent one by one: in a struct, what they hold would be lost.
+    /// Opens all that was lodged: lists each bidder whose amount is above 0 on the sheet, writes the page, and answers its length in bytes. The
+    /// work area is all zero afterwards, granted or refused. The room stays as it is.
+    // The three places are lent one by one: in a struct, what they hold would be lost.
     pub fn open(
-        &mut self,
+        &self,
         sheet: &mut [SheetEntry],
         page: &mut [u8],
         work: &mut [u8],
     ) -> Result<usize, RoomFault>
-        ensures opened { Opened (E.kind self.old.engine) self.old.inner.now (record { sheet = sheet.old; page = page.old; work = work.old }) result (record { sheet = sheet.new; page = page.new; work = work.new }) self.new.inner.now }
-        ensures engine { self.new.engine ≡ self.old.engine }
-        ensures place { self.new.inner.ghost_name ≡ self.old.inner.ghost_name }
+        ensures opened { let room = self.now.inner.now in
+            let given : Lent = record { sheet = sheet.old; page = page.old; work = work.old } in
+            let back : Lent = record { sheet = sheet.new; page = page.new; work = work.new } in
+            Opened (E.kind self.now.engine) room given result back room }
     {
         let guard = Guard { work };
         self.inner.admits(Op::Open)?;
         check_places(sheet, page)?;
         let work = guard.work.as_mut_array().ok_or(RoomFault::Places)?;
-        Ok(self.inner.print(&self.engine, sheet, page, work))
+        self.inner.print(&self.engine, sheet, page, work)
     }
 }

@@ -4,7 +4,7 @@ ghost use Rattle.list.specs.Order.{by_key, by_key_is_total};
 use list::Entry;
 use std::cmp::Ordering;
 
-// A bidder and the amount that it offers, in cents.
+/// A bidder and the amount that it offers, in cents.
 #[derive(Clone, Copy)]
 pub struct SheetEntry {
     pub bidder: u32,

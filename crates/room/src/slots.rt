@@ -1,12 +1,11 @@
 // What a room keeps for each registered bidder, and its phase.
-ghost use Rattle.std.specs.Prelude.{◌≡◌, ◌^◌, ◌<◌, ◌≤◌, length, MatchResult};
-ghost use Rattle.room.specs.Rooms.{filled};
+ghost use Rattle.std.specs.Prelude.{◌≡◌, ◌≤◌, ◌++◌, length, drop, MatchResult};
 ghost use Rattle.room.specs.Slots.{new_slot, IsFirst, HasNone};
 ghost use Rattle.room.specs.declared.faults.RoomFault.TheVariants.{UnknownBidder};
 
 use crate::faults::RoomFault;
 use cipher::{KEY_BYTES, MOST_TAG_BYTES};
-use envelope::{HEAD_BYTES, LETTER_BYTES};
+use envelope::LETTER_BYTES;
 
 // A room is open for lodging until it is closed.
 #[derive(Clone, Copy)]
@@ -44,20 +43,20 @@ impl Slot {
         }
     }
 
-    // Takes an accepted envelope of the slot's bidder.
-    pub(crate) fn fill(&mut self, sequence: u32, envelope: &[u8])
-        requires { (76 ≤ length envelope.now) × (length envelope.now ≤ 92) }
-        ensures { self.new ≡ filled self.old sequence envelope.now }
+    // Takes an accepted letter and its tag. Bytes of the slot's tag that the tag has not are left as they are.
+    pub(crate) fn fill(&mut self, sequence: u32, letter: &[u8; LETTER_BYTES], tag: &[u8])
+        requires { length tag.now ≤ 16 }
+        ensures { let kept = tag.now ++ drop (length tag.now) self.old.tag in
+            self.new ≡ record self.old { sequence = sequence; letter = letter.now; tag = kept } }
     {
-        let (letter, tag) = envelope[HEAD_BYTES..].split_at(LETTER_BYTES);
         self.sequence = sequence;
-        self.letter.copy_from_slice(letter);
+        self.letter = *letter;
         self.tag[..tag.len()].copy_from_slice(tag);
     }
 }
 
-// The place of a bidder's slot. The slots are looked at one by one: there are at most 64, and `position` says it plainly. A binary search
-// would need that they rise by bidder, which those of a place with any content need not.
+// The place of a bidder's slot. The slots are looked at one by one: there are at most 64, and `position` says it plainly, whether they rise by
+// bidder or not.
 pub(crate) fn place_of(slots: &[Slot], bidder: u32) -> Result<usize, RoomFault>
     ensures { MatchResult result (λ i. IsFirst slots.now bidder i) (λ f. HasNone slots.now bidder × (f ≡ UnknownBidder)) }
 {

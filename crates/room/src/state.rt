@@ -1,15 +1,16 @@
 // What a room keeps, in a place that the caller holds.
-ghost use Rattle.std.specs.Prelude.{◌≤◌};
+ghost use Rattle.std.specs.Prelude.{◌≤◌, take};
+ghost use Rattle.room.specs.Rising.{RiseByBidder};
 
 use crate::slots::{Phase, Slot};
 use envelope::MOST_TERMS_BYTES;
 
-// The most bidders of a register.
+/// The most bidders of a register.
 pub const MOST_BIDDERS: usize = 64;
 
-// The terms are the first `terms_bytes` of their array, and the slots in use the first `count`, in the register's order.
-// These are arrays with counts and no Vec: by a rule of the project a room's place is a plain struct of arrays that the caller lends, with
-// room for the most of each.
+/// What a room keeps. The terms are the first `terms_bytes` of their array, and the slots in use the first `count`, in the register's order:
+/// they rise by bidder. These are arrays with counts and no Vec: by a rule of the project a room's place is a plain struct of arrays that the
+/// caller lends, with room for the most of each.
 #[derive(Drop)]
 pub struct RoomState {
     pub(crate) phase: Phase,
@@ -20,4 +21,5 @@ pub struct RoomState {
     pub(crate) count: usize,
     ghost short: { terms_bytes ≤ 64 },
     ghost few: { count ≤ 64 },
+    ghost rising: { RiseByBidder (take count slots) },
 }

@@ -56,15 +56,15 @@ pub fn hold_sale<E: Engine + Copy>(
     lodge_bid(rt, &mut room, &mut pen, 9, 0)?;
     lodge_bid(rt, &mut room, &mut pen, 7, 1)?;
     lodge_refused(rt, &mut room)?;
-    print_page(rt, &mut room)?;
-    open_with_nothing(rt, &mut room)?;
+    print_page(rt, &room)?;
+    open_with_nothing(rt, &room)?;
     tell(rt, "closing", done(room.close()))?;
     lodge_bid(rt, &mut room, &mut pen, 8, 999_999)?;
     tell(rt, "lodging no bytes", room.lodge(b""))?;
     tell(rt, "asking for bidder 5", room.ask(5))?;
-    open_with_others(rt, &mut room)?;
-    print_page(rt, &mut room)?;
-    print_page(rt, &mut room)
+    open_with_others(rt, &room)?;
+    print_page(rt, &room)?;
+    print_page(rt, &room)
 }
 
 // An unlawful letter with a right tag, the same again, a changed tag, another lot, and a short envelope.
@@ -136,5 +136,5 @@ pub fn hold_again<E: Engine + Copy>(
     lodge_bid(rt, &mut room, &mut pen, 2, 999_999_999_999)?;
     tell(rt, "closing", done(room.close()))?;
     tell(rt, "closing again", done(room.close()))?;
-    print_page(rt, &mut room)
+    print_page(rt, &room)
 }

@@ -23,7 +23,7 @@ const ENOUGH: Sizes = Sizes {
 // Opens the room and prints its page.
 fn open<E: Engine + Copy>(
     rt: &HostRuntime,
-    room: &mut Room<E>,
+    room: &Room<E>,
     call: &str,
     lent: Sizes,
 ) -> anyhow::Result<()> {
@@ -42,14 +42,14 @@ fn open<E: Engine + Copy>(
 }
 
 // Opens a room with enough lent.
-pub fn print_page<E: Engine + Copy>(rt: &HostRuntime, room: &mut Room<E>) -> anyhow::Result<()> {
+pub fn print_page<E: Engine + Copy>(rt: &HostRuntime, room: &Room<E>) -> anyhow::Result<()> {
     open(rt, room, "opening", ENOUGH)
 }
 
 // Opens a room with nothing lent: what is refused first shows.
 pub fn open_with_nothing<E: Engine + Copy>(
     rt: &HostRuntime,
-    room: &mut Room<E>,
+    room: &Room<E>,
 ) -> anyhow::Result<()> {
     let nothing = Sizes {
         sheet: 0,
@@ -62,7 +62,7 @@ pub fn open_with_nothing<E: Engine + Copy>(
 // Opens a room with one place or byte too few of each kind, and with one byte too many to work in.
 pub fn open_with_others<E: Engine + Copy>(
     rt: &HostRuntime,
-    room: &mut Room<E>,
+    room: &Room<E>,
 ) -> anyhow::Result<()> {
     let sheet = Sizes {
         sheet: 63,

@@ -7,7 +7,11 @@ use Rattle.room.proofs.conditions.Conditions.fill_sheet.Given as goal
 
 abbrev pub invariant-loop-slot : goal.invariant-loop-slot
 invariant-loop-slot g l =
-    (l.n ≡ length (sheet_in (g.E.Engine.kind l.self.engine.now) l.self.lot l.self.terms.now (take l.slot-index l.slots)))
-    × (l.sheet ≡ written_over (sheet_in (g.E.Engine.kind l.self.engine.now) l.self.lot l.self.terms.now (take l.slot-index l.slots)) l.initial.sheet)
-    × AllByRecursion Fits (take l.slot-index l.slots)
-    × (l.n ≤ l.slot-index)
+    let s = sheet_in (g.E.Engine.kind l.self.engine.now) l.self.lot l.self.terms.now (take l.slot-index l.slots) in
+    record {
+      count : l.listed.count ≡ length s;
+      places : l.listed.places.now ≡ written_over s l.initial.listed.places.now;
+      same_places : l.listed.places.ghost_name ≡ l.initial.listed.places.ghost_name;
+      fit : AllByRecursion Fits (take l.slot-index l.slots);
+      few : l.listed.count ≤ l.slot-index;
+    }

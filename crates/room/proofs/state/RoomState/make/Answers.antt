@@ -3,8 +3,14 @@ use Rattle.std.proofs.lemmas.List.{length-map}
 use borrow.Rule.Slice.PartMut.{post_of}
 use Rattle.room.specs.Slots.{new_slot}
 use Rattle.room.specs.Making.{lawful_register}
-use Rattle.room.proofs.CodeMaking.{made_granted}
+use Rattle.room.proofs.CodeMaking.{made_granted, made_rising}
 use Rattle.room.proofs.state.RoomState.make.Goals as goal
+
+pub invariant_of-self-clause-rising : goal.invariant_of-self-clause-rising
+invariant_of-self-clause-rising c =
+    let lawful : lawful_register c.args.register.now ≡ true = search rules in
+    let slots = c.enroll.ensures.slots ∙ ap (λ n. map new_slot c.args.register.now ++ drop n c.args.self.now.slots) (sym (length-map c.args.register.now new_slot)) in
+    made_rising c.args.register.now c.args.self.now.slots _ lawful slots
 
 pub returns : goal.returns
 returns c =
