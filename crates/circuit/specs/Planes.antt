@@ -1,6 +1,6 @@
 -- Blocks in words, and what the steps of a round do to them: the terms of the contracts between the functions of this crate.
 use Rattle.std.specs.Prelude.{◌≡◌, ℕ, ◌+◌, ◌*◌, ◌/◌, ◌%◌, ◌<◌, ◌≤◌, Bool, false, List, [], ◌∷◌, take, drop, slice_index, slice_index_or}
-use Rattle.binary.specs.Bits.{bit, one}
+use Rattle.binary.specs.Bits.{bit, value}
 use Rattle.engine.specs.Spongent.{table}
 use Rattle.circuit.specs.declared.planes.Planes.{Planes}
 
@@ -12,7 +12,8 @@ Wide m = (40 ≤ m) × (m ≤ 44) × (m % 4 ≡ 0)
 abbrev pub Bits : Type 0
 Bits = ℕ → Bool
 
--- The bits of a word of one block, and of the words of four blocks in lanes.
+-- The bits of a word of one block, and of the words of four blocks in lanes. Lanes are counted modulo 4, so that what is said of gates needs no
+-- bound on the block's number.
 abbrev pub one_at : ℕ → ℕ → Bits
 one_at x i k = bit x k
 
@@ -29,7 +30,7 @@ word_bit ws t k = slice_index_or ws t (λ _. false) k
 
 -- Bit t of the table's entry at the half byte of the bits a, b, c and d, lowest first.
 abbrev pub entry : Bool → Bool → Bool → Bool → ℕ → Bool
-entry a b c d t = bit (slice_index table (one a + 2 * (one b + 2 * (one c + 2 * (one d + 2 * 0))))) t
+entry a b c d t = bit (slice_index table (value (a ∷ b ∷ c ∷ d ∷ []) 0 4)) t
 
 -- At each place the half byte of the four words' bits is substituted.
 abbrev pub Substituted : List Bits → List Bits → Type 0
