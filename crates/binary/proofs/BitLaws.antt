@@ -2,7 +2,7 @@
 use Rattle.std.proofs.Common.{◌≡◌, ℕ, zero, suc, ◌+◌, ◌-◌, ◌*◌, ◌/◌, ◌%◌, ◌^◌, ◌<◌, Bool, true, false, not, ◌&&◌, ◌||◌, eqb, sym, refl, ap, ◌∙◌, le_of_suc-le-suc, not-suc-le-zero, add-zero, mod-lt, mod-eq_of_lt, pow-suc, one-add, arith, lit<}
 use lib.Bits.{bit_and, bit_or, bit_xor, and_shr, or_shr, xor_shr, and_mod, or_mod, xor_mod, xor_add_and, and_mask}
 use Rattle.std.proofs.lemmas.Nat.{shr-shr, pow_pos}
-use Rattle.binary.specs.Bits.{bit, one, differs, word}
+use Rattle.binary.specs.Bits.{bit, bit_number, differs, word}
 
 two : 0 < 2
 two = lit< tt
@@ -58,16 +58,16 @@ bit_of_xor a b k =
 pub bit_suc : (x k : ℕ) → bit x (suc k) ≡ bit (x / 2) k
 bit_suc x k = ap (λ n. eqb (n % 2) 1) (sym (shr-shr x 1 k ∙ ap (λ n. x / 2 ^ n) (one-add k)))
 
-half : (b : Bool) (y : ℕ) → (one b + 2 * y) / 2 ≡ y
+half : (b : Bool) (y : ℕ) → (bit_number b + 2 * y) / 2 ≡ y
 half true y = omega arith
 half false y = omega arith
 
-pub bit_zero : (b : Bool) (y : ℕ) → bit (one b + 2 * y) 0 ≡ b
+pub bit_zero : (b : Bool) (y : ℕ) → bit (bit_number b + 2 * y) 0 ≡ b
 bit_zero true y = let e : (1 + 2 * y) / 1 % 2 ≡ 1 = omega arith in rw e
 bit_zero false y = let e : (0 + 2 * y) / 1 % 2 ≡ 0 = omega arith in rw e
 
-pub bit_more : (b : Bool) (y k : ℕ) → bit (one b + 2 * y) (suc k) ≡ bit y k
-bit_more b y k = bit_suc (one b + 2 * y) k ∙ ap (λ n. bit n k) (half b y)
+pub bit_more : (b : Bool) (y k : ℕ) → bit (bit_number b + 2 * y) (suc k) ≡ bit y k
+bit_more b y k = bit_suc (bit_number b + 2 * y) k ∙ ap (λ n. bit n k) (half b y)
 
 pub bit_word : (f : ℕ → Bool) (p w k : ℕ) → k < w → bit (word f p w) k ≡ f (p + k)
 bit_word f p zero k h = absurd (not-suc-le-zero h)

@@ -13,8 +13,8 @@ use Rattle.engine.specs.Permutation.{block_size, permutation, each}
 use Rattle.engine.specs.Calls.{one_after, four_after}
 use Rattle.engine.proofs.Laws.{permutation_length}
 use Rattle.engine.proofs.CallLaws.{replaced_granted}
-use Rattle.cipher.specs.Blocks.{padded, part, parts, xored, stream, summed}
-use Rattle.cipher.specs.Groups.{held}
+use Rattle.cipher.specs.Blocks.{padded_part, part, parts, xor_of, stream, sum_of_parts}
+use Rattle.cipher.specs.Groups.{block_in}
 use Rattle.std.proofs.lemmas.Nat.{mul-le}
 use Rattle.std.proofs.Math.Nat.{mul-div_cancel}
 use Rattle.cipher.proofs.MaskLaws.{wide}
@@ -27,14 +27,14 @@ narrow Dumbo = omega arith
 narrow Jumbo = omega arith
 narrow Delirium = omega arith
 
-pub held_length : (v : Variant) (room : List ℕ) → length room ≡ 25 → length (held v room) ≡ block_size v
+pub held_length : (v : Variant) (room : List ℕ) → length room ≡ 25 → length (block_in v room) ≡ block_size v
 held_length v room h = length-take-le (block_size v) room (omega (arith, narrow v))
 
 pub four_length : (v : Variant) (room : List ℕ) → length room ≡ 100 → length (take (4 * block_size v) room) ≡ 4 * block_size v
 four_length v room h = length-take-le (4 * block_size v) room (omega (arith, narrow v))
 
-pub take_xored : (n : ℕ) (a b : List ℕ) → take n (xored a b) ≡ xored (take n a) (take n b)
-unfolding xored
+pub take_xored : (n : ℕ) (a b : List ℕ) → take n (xor_of a b) ≡ xor_of (take n a) (take n b)
+unfolding xor_of
 take_xored zero a b = refl
 take_xored (suc n) [] b = refl
 take_xored (suc n) (x ∷ a) [] = refl
@@ -58,12 +58,12 @@ moved_on (suc n) (z ∷ b) ys x y h l e f =
 
 -- What an engine makes of the front of a room.
 pub one_held : (v : Variant) (n : ℕ) (room y rest : List ℕ) → n ≡ block_size v → length room ≡ 25 → y ≡ one_after v (take (n - 0) room)
-    → held v (y ++ rest) ≡ permutation v (held v room)
+    → block_in v (y ++ rest) ≡ permutation v (block_in v room)
 one_held v n room y rest en long ey =
     let cut : n - 0 ≡ block_size v = omega arith in
-    let made : y ≡ permutation v (held v room) =
-    ey ∙ ap (λ m. one_after v (take m room)) cut ∙ replaced_granted (block_size v) (permutation v) (held v room) (held_length v room long) in
-    take_at y rest (block_size v) (ap length made ∙ permutation_length v (held v room) ∙ held_length v room long) ∙ made
+    let made : y ≡ permutation v (block_in v room) =
+    ey ∙ ap (λ m. one_after v (take m room)) cut ∙ replaced_granted (block_size v) (permutation v) (block_in v room) (held_length v room long) in
+    take_at y rest (block_size v) (ap length made ∙ permutation_length v (block_in v room) ∙ held_length v room long) ∙ made
 
 pub each_length : (v : Variant) (k : ℕ) (xs : List ℕ) → length xs ≡ k * block_size v → length (each (permutation v) (block_size v) k xs) ≡ k * block_size v
 unfolding each
@@ -92,44 +92,44 @@ take_past (suc n) (x ∷ a) s h =
 
 -- Bytes at the front of a room of zeros.
 pub padded_held : (v : Variant) (m : ℕ) (bytes copied : List ℕ) → length bytes ≤ block_size v → block_size v ≤ length bytes + m → copied ≡ bytes
-    → held v (copied ++ replicate m 0) ≡ padded (block_size v) bytes
-unfolding padded
+    → block_in v (copied ++ replicate m 0) ≡ padded_part (block_size v) bytes
+unfolding padded_part
 padded_held v m bytes copied few enough e =
     let n = block_size v in
     ap (λ b. take n (b ++ replicate m 0)) e ∙ take_past n bytes (replicate m 0) few
     ∙ ap₂ ◌++◌ (sym (take_all n bytes few)) (take-replicate (n - length bytes) m 0 (omega arith))
 
-padded_none : (m : ℕ) (t : List ℕ) → padded 0 t ≡ []
-unfolding padded
+padded_none : (m : ℕ) (t : List ℕ) → padded_part 0 t ≡ []
+unfolding padded_part
 padded_none m t = let z : 0 - length t ≡ 0 = omega arith in ap (λ k. take 0 t ++ replicate k 0) z
 
-padded_cons : (n x : ℕ) (t : List ℕ) → padded (suc n) (x ∷ t) ≡ x ∷ padded n t
-unfolding padded
+padded_cons : (n x : ℕ) (t : List ℕ) → padded_part (suc n) (x ∷ t) ≡ x ∷ padded_part n t
+unfolding padded_part
 padded_cons n x t = let e : suc n - suc (length t) ≡ n - length t = omega arith in ap (λ k. x ∷ (take n t ++ replicate k 0)) e
 
-padded_zeros : (n : ℕ) → padded n [] ≡ replicate n 0
-unfolding padded
+padded_zeros : (n : ℕ) → padded_part n [] ≡ replicate n 0
+unfolding padded_part
 padded_zeros n = ap₂ (λ a k. a ++ replicate k 0) (take_all n [] (omega arith)) (sub-zero n)
 
 replicate_add : (n m : ℕ) → replicate {A = ℕ} (n + m) 0 ≡ replicate n 0 ++ replicate m 0
 replicate_add zero m = ap (λ k. replicate {A = ℕ} k 0) (zero-add m)
 replicate_add (suc n) m = ap (λ k. replicate {A = ℕ} k 0) (suc-add n m) ∙ ap (λ t. 0 ∷ t) (replicate_add n m)
 
-padded_split : (n m : ℕ) (t : List ℕ) → padded (n + m) t ≡ padded n t ++ padded m (drop n t)
-padded_split zero m t = ap (λ k. padded k t) (zero-add m) ∙ ap (λ z. z ++ padded m t) (sym (padded_none m t))
+padded_split : (n m : ℕ) (t : List ℕ) → padded_part (n + m) t ≡ padded_part n t ++ padded_part m (drop n t)
+padded_split zero m t = ap (λ k. padded_part k t) (zero-add m) ∙ ap (λ z. z ++ padded_part m t) (sym (padded_none m t))
 padded_split (suc n) m [] = padded_zeros (suc n + m) ∙ replicate_add (suc n) m ∙ sym (ap₂ ◌++◌ (padded_zeros (suc n)) (padded_zeros m))
 padded_split (suc n) m (x ∷ t) =
-    ap (λ k. padded k (x ∷ t)) (suc-add n m) ∙ padded_cons (n + m) x t ∙ ap (λ z. x ∷ z) (padded_split n m t) ∙ ap (λ z. z ++ padded m (drop n t)) (sym (padded_cons n x t))
+    ap (λ k. padded_part k (x ∷ t)) (suc-add n m) ∙ padded_cons (n + m) x t ∙ ap (λ z. x ∷ z) (padded_split n m t) ∙ ap (λ z. z ++ padded_part m (drop n t)) (sym (padded_cons n x t))
 
 -- The parts of a string side by side are the string, filled up with zeros.
-pub parts_of : (n k i : ℕ) (s : List ℕ) → padded (k * n) (drop (i * n) s) ≡ stream (λ q. part n q s) k i
+pub parts_of : (n k i : ℕ) (s : List ℕ) → padded_part (k * n) (drop (i * n) s) ≡ stream (λ q. part n q s) k i
 unfolding part stream
-parts_of n zero i s = ap (λ m. padded m (drop (i * n) s)) (zero-mul n) ∙ padded_none n (drop (i * n) s)
+parts_of n zero i s = ap (λ m. padded_part m (drop (i * n) s)) (zero-mul n) ∙ padded_none n (drop (i * n) s)
 parts_of n (suc k) i s =
     let more : suc k * n ≡ n + k * n = omega (arith, suc-mul k n) in
     let next : i * n + n ≡ suc i * n = omega (arith, suc-mul i n) in
-    ap (λ m. padded m (drop (i * n) s)) more ∙ padded_split n (k * n) (drop (i * n) s)
-    ∙ ap (λ z. padded n (drop (i * n) s) ++ z) (ap (padded (k * n)) (drop-drop n (i * n) s ∙ ap (λ m. drop m s) next) ∙ parts_of n k (suc i) s)
+    ap (λ m. padded_part m (drop (i * n) s)) more ∙ padded_split n (k * n) (drop (i * n) s)
+    ∙ ap (λ z. padded_part n (drop (i * n) s) ++ z) (ap (padded_part (k * n)) (drop-drop n (i * n) s ∙ ap (λ m. drop m s) next) ∙ parts_of n k (suc i) s)
 
 -- The first of some blocks.
 pub stream_front : (f : ℕ → List ℕ) (n g k : ℕ) → ((q : ℕ) → length (f q) ≡ n) → g ≤ k → take (g * n) (stream f k 0) ≡ stream f g 0
@@ -139,30 +139,30 @@ stream_front f n g k h l =
 
 -- A group that begins a string is its first block, and the rest goes on from there.
 pub summed_rest : (n : ℕ) (x rest b : List ℕ) → 0 < n → length x ≡ n
-    → summed (λ q. take n (drop (q * n) (x ++ rest))) (length (x ++ rest) / n) 0 b ≡ summed (λ q. take n (drop (q * n) rest)) (length rest / n) 0 (xored b x)
-unfolding summed
+    → sum_of_parts (λ q. take n (drop (q * n) (x ++ rest))) (length (x ++ rest) / n) 0 b ≡ sum_of_parts (λ q. take n (drop (q * n) rest)) (length rest / n) 0 (xor_of b x)
+unfolding sum_of_parts
 summed_rest n x rest b some long =
     let f : ℕ → List ℕ = λ q. take n (drop (q * n) (x ++ rest)) in
     let first : f 0 ≡ x = ap (λ m. take n (drop m (x ++ rest))) (zero-mul n) ∙ take_at x rest n long in
     let all : length (x ++ rest) ≡ length rest + 1 * n = omega (arith, length-append x rest, one-mul n) in
     let count : length (x ++ rest) / n ≡ suc (length rest / n) = ap (λ m. m / n) all ∙ add-mul-div_right (length rest) 1 some ∙ add-one (length rest / n) in
-    ap (λ k. summed f k 0 b) count ∙ ap (λ z. summed f (length rest / n) 1 (xored b z)) first
-    ∙ summed_shift f (λ q. take n (drop (q * n) rest)) (length rest / n) 1 0 (xored b x)
+    ap (λ k. sum_of_parts f k 0 b) count ∙ ap (λ z. sum_of_parts f (length rest / n) 1 (xor_of b z)) first
+    ∙ summed_shift f (λ q. take n (drop (q * n) rest)) (length rest / n) 1 0 (xor_of b x)
     (λ q. let a : (q + 1) * n ≡ n + q * n = omega (arith, add-mul q 1 n, one-mul n) in
     ap (λ m. take n (drop m (x ++ rest))) a ∙ ap (take n) (sym (drop-drop (q * n) n (x ++ rest)) ∙ ap (drop (q * n)) (drop_at x rest n long)) ∙ ap (λ k. take n (drop (k * n) rest)) (sym (add-zero q)))
 
 -- Blocks of n bytes xored into the front of a room.
-pub take_summed : (f : ℕ → List ℕ) (n k i : ℕ) (b : List ℕ) → ((q : ℕ) → length (f q) ≤ n) → take n (summed f k i b) ≡ summed f k i (take n b)
-unfolding summed
+pub take_summed : (f : ℕ → List ℕ) (n k i : ℕ) (b : List ℕ) → ((q : ℕ) → length (f q) ≤ n) → take n (sum_of_parts f k i b) ≡ sum_of_parts f k i (take n b)
+unfolding sum_of_parts
 take_summed f n zero i b h = refl
 take_summed f n (suc k) i b h =
-    take_summed f n k (suc i) (xored b (f i)) h
-    ∙ ap (summed f k (suc i)) (take_xored n b (f i) ∙ ap (xored (take n b)) (take_all n (f i) (h i)))
+    take_summed f n k (suc i) (xor_of b (f i)) h
+    ∙ ap (sum_of_parts f k (suc i)) (take_xored n b (f i) ∙ ap (xor_of (take n b)) (take_all n (f i) (h i)))
 
 -- The first g of four blocks, cut out of their room and summed into another.
 pub group_summed : (v : Variant) (f : ℕ → List ℕ) (n g : ℕ) (room cut b new : List ℕ) → n ≡ block_size v → ((q : ℕ) → length (f q) ≡ block_size v) → g ≤ 4
     → take (4 * block_size v) room ≡ stream f 4 0 → cut ≡ take (g * n - 0) room
-    → new ≡ summed (λ q. take n (drop (q * n) cut)) (length cut / n) 0 b → held v new ≡ summed f g 0 (held v b)
+    → new ≡ sum_of_parts (λ q. take n (drop (q * n) cut)) (length cut / n) 0 b → block_in v new ≡ sum_of_parts f g 0 (block_in v b)
 group_summed v f n g room cut b new en h few laid ec es =
     let w = block_size v in
     let much : g * w ≤ 4 * w = mul-le g w 4 w few (omega arith) in
@@ -170,10 +170,10 @@ group_summed v f n g room cut b new en h few laid ec es =
     let front : cut ≡ stream f g 0 =
     ec ∙ ap (λ m. take m room) size ∙ sym (take-take (g * w) (4 * w) room much) ∙ ap (take (g * w)) laid ∙ stream_front f w g 4 h few in
     let count : length cut / n ≡ g = ap₂ ◌/◌ (ap length front ∙ length_stream f w g 0 h) en ∙ mul-div_cancel g (wide v) in
-    ap (held v) (es ∙ ap₂ (λ m k. summed (λ q. take m (drop (q * m) cut)) k 0 b) en count)
+    ap (block_in v) (es ∙ ap₂ (λ m k. sum_of_parts (λ q. take m (drop (q * m) cut)) k 0 b) en count)
     ∙ take_summed (λ q. take w (drop (q * w) cut)) w g 0 b (λ q. omega (arith, length-take w (drop (q * w) cut)))
-    ∙ ap (λ z. summed (λ q. take w (drop (q * w) z)) g 0 (held v b)) front
-    ∙ summed_stream f w g g (held v b) h (omega arith)
+    ∙ ap (λ z. sum_of_parts (λ q. take w (drop (q * w) z)) g 0 (block_in v b)) front
+    ∙ summed_stream f w g g (block_in v b) h (omega arith)
 
 -- How many parts there are, by the bytes before 01.
 pub parts_closed : (n m : ℕ) → 0 < n → m / n + 1 ≡ parts n (m + 1)

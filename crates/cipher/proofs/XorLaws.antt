@@ -6,7 +6,7 @@ use Rattle.std.proofs.lemmas.List.{take_all}
 use Rattle.std.proofs.lemmas.Bool.{cases_lt}
 use Rattle.std.specs.Str.{bytes_eq}
 use Rattle.std.proofs.lemmas.Slice.Eq.{bytes_eq-Decides}
-use Rattle.cipher.specs.Blocks.{xored}
+use Rattle.cipher.specs.Blocks.{xor_of}
 
 -- Two tests of one fact answer alike.
 pub decided_alike : (a b : Bool) (P : Type 0) → Decides a P → Decides b P → a ≡ b
@@ -14,47 +14,47 @@ decided_alike true b P f g = sym (g.1 (f.0 refl))
 decided_alike false true P f g = f.1 (g.0 refl)
 decided_alike false false P f g = refl
 
-pub xored_nil : (xs : List ℕ) → xored xs [] ≡ xs
-unfolding xored
+pub xored_nil : (xs : List ℕ) → xor_of xs [] ≡ xs
+unfolding xor_of
 xored_nil [] = refl
 xored_nil (x ∷ xs) = refl
 
-pub length_xored : (xs ks : List ℕ) → length (xored xs ks) ≡ length xs
-unfolding xored
+pub length_xored : (xs ks : List ℕ) → length (xor_of xs ks) ≡ length xs
+unfolding xor_of
 length_xored [] ks = refl
 length_xored (x ∷ xs) [] = refl
 length_xored (x ∷ xs) (k ∷ ks) = ap suc (length_xored xs ks)
 
 -- a loop's step: one more byte
 pub xored_more : (k : ℕ) (d s : List ℕ) → k < length d → k < length s
-    → set (xored d (take k s)) k (bit_xor (get_or (xored d (take k s)) k 0) (get_or s k 0)) ≡ xored d (take (suc k) s)
-unfolding xored
+    → set (xor_of d (take k s)) k (bit_xor (get_or (xor_of d (take k s)) k 0) (get_or s k 0)) ≡ xor_of d (take (suc k) s)
+unfolding xor_of
 xored_more k [] s h g = absurd (omega arith)
 xored_more k (x ∷ d) [] h g = absurd (omega arith)
 xored_more zero (x ∷ d) (y ∷ s) h g = ap (λ t. bit_xor x y ∷ t) (sym (xored_nil d))
 xored_more (suc k) (x ∷ d) (y ∷ s) h g = ap (λ t. bit_xor x y ∷ t) (xored_more k d s (omega arith) (omega arith))
 
 -- what is past the end does not count
-pub xored_take : (k : ℕ) (d s : List ℕ) → length d ≤ k → xored d (take k s) ≡ xored d s
-unfolding xored
+pub xored_take : (k : ℕ) (d s : List ℕ) → length d ≤ k → xor_of d (take k s) ≡ xor_of d s
+unfolding xor_of
 xored_take k [] s h = refl
 xored_take zero (x ∷ d) s h = absurd (omega arith)
 xored_take (suc k) (x ∷ d) [] h = refl
 xored_take (suc k) (x ∷ d) (y ∷ s) h = ap (λ t. bit_xor x y ∷ t) (xored_take k d s (omega arith))
 
-pub xored_all : (k : ℕ) (d s : List ℕ) → min (length d) (length s) ≤ k → xored d (take k s) ≡ xored d s
-xored_all k d s h = ⊎_elim (λ b. ap (xored d) (take_all k s (omega arith))) (λ a. xored_take k d s a) (cases_lt k (length d))
+pub xored_all : (k : ℕ) (d s : List ℕ) → min (length d) (length s) ≤ k → xor_of d (take k s) ≡ xor_of d s
+xored_all k d s h = ⊎_elim (λ b. ap (xor_of d) (take_all k s (omega arith))) (λ a. xored_take k d s a) (cases_lt k (length d))
 
 -- side by side
-pub xored_append : (a c b d : List ℕ) → length a ≡ length c → xored (a ++ b) (c ++ d) ≡ xored a c ++ xored b d
-unfolding xored
+pub xored_append : (a c b d : List ℕ) → length a ≡ length c → xor_of (a ++ b) (c ++ d) ≡ xor_of a c ++ xor_of b d
+unfolding xor_of
 xored_append [] [] b d e = refl
 xored_append [] (y ∷ c) b d e = absurd (omega arith)
 xored_append (x ∷ a) [] b d e = absurd (omega arith)
 xored_append (x ∷ a) (y ∷ c) b d e = ap (λ t. bit_xor x y ∷ t) (xored_append a c b d (omega arith))
 
-pub xored_enough : (t s r : List ℕ) → length t ≤ length s → xored t (s ++ r) ≡ xored t s
-unfolding xored
+pub xored_enough : (t s r : List ℕ) → length t ≤ length s → xor_of t (s ++ r) ≡ xor_of t s
+unfolding xor_of
 xored_enough [] s r h = refl
 xored_enough (x ∷ t) [] r h = absurd (omega arith)
 xored_enough (x ∷ t) (y ∷ s) r h = ap (λ z. bit_xor x y ∷ z) (xored_enough t s r (omega arith))

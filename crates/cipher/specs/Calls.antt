@@ -46,5 +46,5 @@ abbrev pub open_answer : CheckedText → List ℕ → Result (Unit {0}) CipherFa
 open_answer t out = decided (((length out == length t.sealed), OutputLength) ∷ []) tt
 
 -- What a checked text opens to.
-abbrev pub opened : CheckedText → List ℕ
-opened t = opened_text t.variant (bytes_of 16 t.key) (bytes_of 12 t.nonce) t.sealed
+abbrev pub text_of_checked : CheckedText → List ℕ
+text_of_checked t = opened_text t.variant (bytes_of 16 t.key) (bytes_of 12 t.nonce) t.sealed

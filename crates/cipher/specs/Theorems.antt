@@ -5,7 +5,7 @@ use Rattle.fault.specs.Checks.{granted}
 use Rattle.engine.specs.declared.variants.Variant.{Variant}
 use Rattle.engine.specs.declared.variants.Variant.TheVariants.{Dumbo, Jumbo, Delirium}
 use Rattle.cipher.specs.Mode.{tag_size, tag, sealed_text, opened_text}
-use Rattle.cipher.specs.Calls.{CheckedText, key_answer, seal_answer, check_answer, open_answer, opened}
+use Rattle.cipher.specs.Calls.{CheckedText, key_answer, seal_answer, check_answer, open_answer, text_of_checked}
 use Rattle.cipher.specs.declared.faults.CipherFault.{CipherFault}
 use Rattle.cipher.specs.declared.faults.CipherFault.TheVariants.{KeyLength, NonceLength, AssociatedDataLength, TextLength, TagLength, OutputLength, WrongTag}
 
@@ -72,7 +72,7 @@ pub record CipherLaws : Type 0 where
   -- A checked text opens under the variant, key and nonce of its check, though it holds them as numbers.
   pub opens_under_the_key_of_its_check :
       (v : Variant) (key nonce sealed : List ℕ) → length key ≡ 16 → length nonce ≡ 12 → AllBelowBase 256 key → AllBelowBase 256 nonce
-      → opened (record { variant = v; key = number_from_digits 256 key; nonce = number_from_digits 256 nonce; sealed = sealed }) ≡ opened_text v key nonce sealed
+      → text_of_checked (record { variant = v; key = number_from_digits 256 key; nonce = number_from_digits 256 nonce; sealed = sealed }) ≡ opened_text v key nonce sealed
   -- A sealed text is as long as the text.
   pub sealing_keeps_the_length : (v : Variant) (key nonce text : List ℕ) → length (sealed_text v key nonce text) ≡ length text
   -- A tag has its variant's length.

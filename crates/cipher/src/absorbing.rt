@@ -1,10 +1,10 @@
 // Parts of a string and 01, enciphered and xored into the tag sum.
 ghost use Rattle.std.specs.Prelude.{◌≡◌, ℕ, ◌+◌, ◌*◌, ◌/◌, ◌<◌, min, length, take, drop, Ok};
 ghost use Rattle.engine.specs.Permutation.{block_size};
-ghost use Rattle.cipher.specs.Blocks.{padded, part, parts, repeated, summed};
+ghost use Rattle.cipher.specs.Blocks.{padded_part, part, parts, iterate, sum_of_parts};
 ghost use Rattle.cipher.specs.Masks.{phi1 as first_phi};
-ghost use Rattle.cipher.specs.Mode.{closed, enciphered, absorbed};
-ghost use Rattle.cipher.specs.Groups.{held};
+ghost use Rattle.cipher.specs.Mode.{with_01, enciphered_block, sum_with_parts};
+ghost use Rattle.cipher.specs.Groups.{block_in};
 
 use crate::enciphering::Keyed;
 use crate::faults::CipherFault;
@@ -14,7 +14,7 @@ use engine::Engine;
 
 // Writes the bytes and 01, filled up with zeros, as far as the place goes.
 pub(crate) fn load(bytes: &[u8], block: &mut [u8])
-    ensures { block.new ≡ padded (length block.old) (closed bytes.now) }
+    ensures { block.new ≡ padded_part (length block.old) (with_01 bytes.now) }
 {
     block.fill(0);
     let k = block.len().min(bytes.len());
@@ -27,7 +27,7 @@ pub(crate) fn load(bytes: &[u8], block: &mut [u8])
 // Xors neighbouring blocks of n bytes into the sum.
 fn add_blocks(sum: &mut Block, n: usize, blocks: &[u8])
     requires { 0 < n }
-    ensures { sum.new ≡ summed (λ q. take n (drop (q * n) blocks.now)) (length blocks.now / n) 0 sum.old }
+    ensures { sum.new ≡ sum_of_parts (λ q. take n (drop (q * n) blocks.now)) (length blocks.now / n) 0 sum.old }
 {
     for block in blocks.chunks_exact(n) {
         xor_into(sum, block);
@@ -45,8 +45,8 @@ impl<'e, E: Engine> Keyed<'e, E> {
         sum: &mut Block,
     ) -> Result<(), CipherFault>
         ensures granted { result ≡ Ok tt }
-        ensures sum { let v = E.kind self.now.engine.now in let n = block_size v in held v sum.new ≡ absorbed v (held v running.old) j (min (parts n (length bytes.now + 1)) 4) 0 (closed bytes.now) (held v sum.old) }
-        ensures running { let v = E.kind self.now.engine.now in held v running.new ≡ repeated (first_phi v) 4 (held v running.old) }
+        ensures sum { let v = E.kind self.now.engine.now in let n = block_size v in block_in v sum.new ≡ sum_with_parts v (block_in v running.old) j (min (parts n (length bytes.now + 1)) 4) 0 (with_01 bytes.now) (block_in v sum.old) }
+        ensures running { let v = E.kind self.now.engine.now in block_in v running.new ≡ iterate (first_phi v) 4 (block_in v running.old) }
     {
         let n = self.engine.variant().block_bytes();
         let count = (bytes.len() / n + 1).min(4);
@@ -67,7 +67,7 @@ impl<'e, E: Engine> Keyed<'e, E> {
         sum: &mut Block,
     ) -> Result<(), CipherFault>
         ensures granted { result ≡ Ok tt }
-        ensures sum { let v = E.kind self.now.engine.now in held v sum.new ≡ absorbed v (held v mask) j (parts (block_size v) (length (closed bytes.now))) 0 (closed bytes.now) (held v sum.old) }
+        ensures sum { let v = E.kind self.now.engine.now in block_in v sum.new ≡ sum_with_parts v (block_in v mask) j (parts (block_size v) (length (with_01 bytes.now))) 0 (with_01 bytes.now) (block_in v sum.old) }
     {
         let groups = bytes.chunks_exact(4 * self.engine.variant().block_bytes());
         let rest = groups.remainder();

@@ -3,8 +3,8 @@ ghost use Rattle.std.specs.Prelude.{◌≡◌, ℕ, ◌+◌, ◌*◌, ◌<◌, �
 ghost use Rattle.std.specs.Str.{bytes_eq};
 ghost use Rattle.fault.specs.Checks.{left};
 ghost use Rattle.cipher.specs.Mode.{tag_from};
-ghost use Rattle.cipher.specs.Groups.{held};
-ghost use Rattle.cipher.specs.Calls.{check_answer, open_answer, opened};
+ghost use Rattle.cipher.specs.Groups.{block_in};
+ghost use Rattle.cipher.specs.Calls.{check_answer, open_answer, text_of_checked};
 ghost use Rattle.cipher.specs.Views.{text_of, check_seen, open_seen, GivesBack};
 
 use crate::enciphering::Keyed;
@@ -60,7 +60,7 @@ impl<'e, E: Engine> Keyed<'e, E> {
         sealed: &[u8],
         tag: &[u8],
     ) -> Result<bool, CipherFault>
-        ensures { let v = E.kind self.now.engine.now in result ≡ Ok (bytes_eq tag.now (tag_from v (held v self.now.first) nonce.now associated.now sealed.now)) }
+        ensures { let v = E.kind self.now.engine.now in result ≡ Ok (bytes_eq tag.now (tag_from v (block_in v self.now.first) nonce.now associated.now sealed.now)) }
     {
         let mut block = [0; MOST_BLOCK_BYTES];
         self.tag(nonce, associated, sealed, &mut block)?;
@@ -88,7 +88,7 @@ impl<'a> Checked<'a> {
         out: &mut [u8],
     ) -> Result<(), (CipherFault, Checked<'a>)>
         ensures answer { open_seen result ≡ open_answer (text_of self.entry) out.old }
-        ensures out { out.new ≡ left result (opened (text_of self.entry)) out.old }
+        ensures out { out.new ≡ left result (text_of_checked (text_of self.entry)) out.old }
         ensures again { GivesBack (text_of self.entry) result }
     {
         match self.open_into(engine, out) {
@@ -121,7 +121,7 @@ impl<'a> Checked<'a> {
     // Writes what the text opens to: by the engine lent, or by the plain engine of the text's variant where that one is of another.
     fn open_into<E: Engine>(&self, engine: &E, out: &mut [u8]) -> Result<(), CipherFault>
         ensures answer { result ≡ open_answer (text_of self.now) out.old }
-        ensures out { out.new ≡ left result (opened (text_of self.now)) out.old }
+        ensures out { out.new ≡ left result (text_of_checked (text_of self.now)) out.old }
     {
         self.refuses(out)?;
         if engine.variant() == self.variant {
@@ -140,7 +140,7 @@ impl<'a> Checked<'a> {
         requires variant { E.kind engine.now ≡ self.now.variant }
         requires out { length out.old ≡ length self.now.sealed.now }
         ensures granted { result ≡ Ok tt }
-        ensures out { out.new ≡ opened (text_of self.now) }
+        ensures out { out.new ≡ text_of_checked (text_of self.now) }
     {
         let mut nonce = [0u8; NONCE_BYTES];
         put_number(self.nonce, &mut nonce);

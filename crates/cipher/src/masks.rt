@@ -2,9 +2,9 @@
 // A block is bytes, of which the variant says how many count.
 ghost use Rattle.std.specs.Prelude.{◌≡◌, ℕ, ◌*◌, take};
 ghost use Rattle.engine.specs.Permutation.{block_size};
-ghost use Rattle.cipher.specs.Blocks.{repeated, stream};
-ghost use Rattle.cipher.specs.Masks.{appended, phi1 as first_phi, phi2 as second_phi, mask as mask_of};
-ghost use Rattle.cipher.specs.Groups.{held};
+ghost use Rattle.cipher.specs.Blocks.{iterate, stream};
+ghost use Rattle.cipher.specs.Masks.{appended_byte, phi1 as first_phi, phi2 as second_phi, mask as mask_of};
+ghost use Rattle.cipher.specs.Groups.{block_in};
 
 use crate::sizes::{Block, Blocks};
 use crate::xor::xor_into;
@@ -19,7 +19,7 @@ pub(crate) const SEALED_TURNS: usize = 2;
 
 // The byte that phi1 appends.
 fn appended_byte(variant: Variant, block: &Block) -> u8
-    ensures { result ≡ appended variant (held variant block.now) }
+    ensures { result ≡ appended_byte variant (block_in variant block.now) }
 {
     match variant {
         Variant::Dumbo => block[0].rotate_left(3) ^ (block[3] << 7) ^ (block[13] >> 7),
@@ -30,7 +30,7 @@ fn appended_byte(variant: Variant, block: &Block) -> u8
 
 // Drops the first byte of the block and appends another.
 pub(crate) fn phi1(variant: Variant, block: &mut Block)
-    ensures { held variant block.new ≡ first_phi variant (held variant block.old) }
+    ensures { block_in variant block.new ≡ first_phi variant (block_in variant block.old) }
 {
     let n = variant.block_bytes();
     let last = appended_byte(variant, block);
@@ -40,7 +40,7 @@ pub(crate) fn phi1(variant: Variant, block: &mut Block)
 
 // The block xored with phi1 of it.
 fn phi2(variant: Variant, block: &mut Block)
-    ensures { held variant block.new ≡ second_phi variant (held variant block.old) }
+    ensures { block_in variant block.new ≡ second_phi variant (block_in variant block.old) }
 {
     let old = *block;
     phi1(variant, block);
@@ -49,7 +49,7 @@ fn phi2(variant: Variant, block: &mut Block)
 
 // The running mask with phi2 applied j times.
 pub(crate) fn mask(variant: Variant, running: &Block, j: usize) -> Block
-    ensures { held variant result ≡ mask_of variant (held variant running.now) 0 j }
+    ensures { block_in variant result ≡ mask_of variant (block_in variant running.now) 0 j }
 {
     let mut block = *running;
     for _ in 0..j {
@@ -60,8 +60,8 @@ pub(crate) fn mask(variant: Variant, running: &Block, j: usize) -> Block
 
 // Writes four masks side by side, from the running one on, and steps the running one past them.
 pub(crate) fn four_masks(variant: Variant, running: &mut Block, j: usize, masks: &mut Blocks)
-    ensures masks { take (4 * block_size variant) masks.new ≡ stream (λ q. mask_of variant (held variant running.old) q j) 4 0 }
-    ensures running { held variant running.new ≡ repeated (first_phi variant) 4 (held variant running.old) }
+    ensures masks { take (4 * block_size variant) masks.new ≡ stream (λ q. mask_of variant (block_in variant running.old) q j) 4 0 }
+    ensures running { block_in variant running.new ≡ iterate (first_phi variant) 4 (block_in variant running.old) }
 {
     let n = variant.block_bytes();
     // By the place: what `chunks_exact_mut` wrote is not known after the loop.

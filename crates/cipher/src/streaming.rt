@@ -1,10 +1,10 @@
 // The key stream over a text, part by part, in groups of four.
 ghost use Rattle.std.specs.Prelude.{◌≡◌, ℕ, ◌*◌, ◌≤◌, length, take, Ok};
 ghost use Rattle.engine.specs.Permutation.{block_size};
-ghost use Rattle.cipher.specs.Blocks.{padded, xored, repeated, stream};
+ghost use Rattle.cipher.specs.Blocks.{padded_part, xor_of, iterate, stream};
 ghost use Rattle.cipher.specs.Masks.{phi1 as first_phi};
-ghost use Rattle.cipher.specs.Mode.{key_block, streamed};
-ghost use Rattle.cipher.specs.Groups.{held, group};
+ghost use Rattle.cipher.specs.Mode.{key_block, streamed_text};
+ghost use Rattle.cipher.specs.Groups.{block_in, group};
 
 use crate::enciphering::Keyed;
 use crate::faults::CipherFault;
@@ -34,8 +34,8 @@ impl<'e, E: Engine> Keyed<'e, E> {
         block: &mut Block,
     ) -> Result<(), CipherFault>
         ensures granted { result ≡ Ok tt }
-        ensures block { let v = E.kind self.now.engine.now in held v block.new ≡ key_block v (held v running.old) (held v nonce.now) 0 }
-        ensures running { let v = E.kind self.now.engine.now in held v running.new ≡ first_phi v (held v running.old) }
+        ensures block { let v = E.kind self.now.engine.now in block_in v block.new ≡ key_block v (block_in v running.old) (block_in v nonce.now) 0 }
+        ensures running { let v = E.kind self.now.engine.now in block_in v running.new ≡ first_phi v (block_in v running.old) }
     {
         let variant = self.engine.variant();
         *block = *nonce;
@@ -52,8 +52,8 @@ impl<'e, E: Engine> Keyed<'e, E> {
         blocks: &mut Blocks,
     ) -> Result<(), CipherFault>
         ensures granted { result ≡ Ok tt }
-        ensures blocks { let v = E.kind self.now.engine.now in take (4 * block_size v) blocks.new ≡ stream (key_block v (held v running.old) (held v nonce.now)) 4 0 }
-        ensures running { let v = E.kind self.now.engine.now in held v running.new ≡ repeated (first_phi v) 4 (held v running.old) }
+        ensures blocks { let v = E.kind self.now.engine.now in take (4 * block_size v) blocks.new ≡ stream (key_block v (block_in v running.old) (block_in v nonce.now)) 4 0 }
+        ensures running { let v = E.kind self.now.engine.now in block_in v running.new ≡ iterate (first_phi v) 4 (block_in v running.old) }
     {
         copies(&nonce[0..self.engine.variant().block_bytes()], blocks);
         self.encipher_four(running, STREAM_TURNS, blocks)
@@ -69,8 +69,8 @@ impl<'e, E: Engine> Keyed<'e, E> {
     ) -> Result<(), CipherFault>
         requires { length out.old ≡ length part.now }
         ensures granted { result ≡ Ok tt }
-        ensures out { let v = E.kind self.now.engine.now in out.new ≡ xored part.now (stream (key_block v (held v running.old) (held v nonce.now)) (group v part.now) 0) }
-        ensures running { let v = E.kind self.now.engine.now in held v running.new ≡ repeated (first_phi v) (group v part.now) (held v running.old) }
+        ensures out { let v = E.kind self.now.engine.now in out.new ≡ xor_of part.now (stream (key_block v (block_in v running.old) (block_in v nonce.now)) (group v part.now) 0) }
+        ensures running { let v = E.kind self.now.engine.now in block_in v running.new ≡ iterate (first_phi v) (group v part.now) (block_in v running.old) }
     {
         let n = self.engine.variant().block_bytes();
         out.copy_from_slice(part);
@@ -95,7 +95,7 @@ impl<'e, E: Engine> Keyed<'e, E> {
     ) -> Result<(), CipherFault>
         requires { length out.old ≡ length text.now }
         ensures granted { result ≡ Ok tt }
-        ensures out { let v = E.kind self.now.engine.now in out.new ≡ streamed v (held v self.now.first) (padded (block_size v) nonce.now) text.now }
+        ensures out { let v = E.kind self.now.engine.now in out.new ≡ streamed_text v (block_in v self.now.first) (padded_part (block_size v) nonce.now) text.now }
     {
         let mut nonce_block = [0; MOST_BLOCK_BYTES];
         nonce_block[0..NONCE_BYTES].copy_from_slice(nonce);

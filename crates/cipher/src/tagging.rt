@@ -2,8 +2,8 @@
 ghost use Rattle.std.specs.Prelude.{◌≡◌, ◌++◌, Ok};
 ghost use Rattle.engine.specs.Permutation.{block_size};
 ghost use Rattle.cipher.specs.Blocks.{part};
-ghost use Rattle.cipher.specs.Mode.{closed, associated_sum, enciphered, tag_sum};
-ghost use Rattle.cipher.specs.Groups.{held};
+ghost use Rattle.cipher.specs.Mode.{with_01, associated_sum, enciphered_block, tag_sum};
+ghost use Rattle.cipher.specs.Groups.{block_in};
 
 use crate::absorbing::load;
 use crate::enciphering::Keyed;
@@ -14,7 +14,7 @@ use engine::{Engine, Variant};
 
 // Writes part 0 of nonce, associated data and 01.
 fn start_sum(variant: Variant, nonce: &[u8; NONCE_BYTES], associated: &[u8], sum: &mut Block)
-    ensures { held variant sum.new ≡ part (block_size variant) 0 (nonce.now ++ closed associated.now) }
+    ensures { block_in variant sum.new ≡ part (block_size variant) 0 (nonce.now ++ with_01 associated.now) }
 {
     sum[0..NONCE_BYTES].copy_from_slice(nonce);
     load(associated, &mut sum[NONCE_BYTES..variant.block_bytes()]);
@@ -29,7 +29,7 @@ impl<'e, E: Engine> Keyed<'e, E> {
         sum: &mut Block,
     ) -> Result<(), CipherFault>
         ensures granted { result ≡ Ok tt }
-        ensures sum { let v = E.kind self.now.engine.now in held v sum.new ≡ associated_sum v (held v self.now.first) nonce.now associated.now }
+        ensures sum { let v = E.kind self.now.engine.now in block_in v sum.new ≡ associated_sum v (block_in v self.now.first) nonce.now associated.now }
     {
         let variant = self.engine.variant();
         start_sum(variant, nonce, associated, sum);
@@ -51,7 +51,7 @@ impl<'e, E: Engine> Keyed<'e, E> {
         block: &mut Block,
     ) -> Result<(), CipherFault>
         ensures granted { result ≡ Ok tt }
-        ensures block { let v = E.kind self.now.engine.now in let first = held v self.now.first in held v block.new ≡ enciphered v first (tag_sum v first nonce.now associated.now sealed.now) 0 0 }
+        ensures block { let v = E.kind self.now.engine.now in let first = block_in v self.now.first in block_in v block.new ≡ enciphered_block v first (tag_sum v first nonce.now associated.now sealed.now) 0 0 }
     {
         self.sum_associated(nonce, associated, block)?;
         self.absorb(self.first, SEALED_TURNS, sealed, block)?;

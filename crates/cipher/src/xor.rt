@@ -1,11 +1,11 @@
 // Exclusive or of byte strings, and their comparison.
 ghost use Rattle.std.specs.Prelude.{◌≡◌};
 ghost use Rattle.std.specs.Str.{bytes_eq};
-ghost use Rattle.cipher.specs.Blocks.{xored};
+ghost use Rattle.cipher.specs.Blocks.{xor_of};
 
 // Xors source into target, as far as both go.
 pub(crate) fn xor_into(target: &mut [u8], source: &[u8])
-    ensures { target.new ≡ xored target.old source.now }
+    ensures { target.new ≡ xor_of target.old source.now }
 {
     let n = target.len().min(source.len());
     // By the place: what `iter_mut().zip` wrote is not known after the loop.

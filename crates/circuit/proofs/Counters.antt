@@ -5,7 +5,7 @@ use Rattle.std.proofs.lemmas.List.FromFn.{get_or-map-range_with_len}
 use Rattle.std.proofs.lemmas.Nat.{div_below, mod_below, div-add-mod'}
 use Rattle.std.proofs.lemmas.Bool.{cases_lt, lt-ltb, le-ltb}
 use Rattle.binary.specs.Bits.{bit, differs}
-use Rattle.engine.specs.Spongent.{added, counted, count}
+use Rattle.engine.specs.Spongent.{counter_bit, bit_with_counter, with_counter}
 use Rattle.binary.proofs.RotationLaws.{bit_shl, bit_shl_low, bit_mod, bit_past}
 use Rattle.circuit.specs.Planes.{Bits, word_bit, Holds}
 use Rattle.circuit.proofs.Decide.{all_of, each_of}
@@ -34,7 +34,7 @@ alone true = refl
 alone false = refl
 
 -- what the rule adds, where both tests are known
-added_is : (b c j : ℕ) (s t : Bool) → ltb j 8 ≡ s → ltb j (b - 8) ≡ t → added b c j ≡ differs (cond s (bit c j) false) (cond t false (bit c (b - 1 - j)))
+added_is : (b c j : ℕ) (s t : Bool) → ltb j 8 ≡ s → ltb j (b - 8) ≡ t → counter_bit b c j ≡ differs (cond s (bit c j) false) (cond t false (bit c (b - 1 - j)))
 added_is b c j s t p q = ap₂ (λ x y. differs (cond x (bit c j) false) (cond y false (bit c (b - 1 - j)))) p q
 
 module _ (m c : ℕ) (low : 8 ≤ m) (small : m ≤ 64) (hc : c < 256) where
@@ -42,7 +42,7 @@ module _ (m c : ℕ) (low : 8 ≤ m) (small : m ≤ 64) (hc : c < 256) where
   abbrev last : ℕ
   last = (reverse_bits_onto 8 c 0 * 2 ^ (m - 8)) % 2 ^ 64
 
-  first_adds : (k : ℕ) → k < m → bit c k ≡ added (m * 4) c k
+  first_adds : (k : ℕ) → k < m → bit c k ≡ counter_bit (m * 4) c k
   first_adds k h =
       let far = lt-ltb k (m * 4 - 8) (omega arith) in
       ⊎_elim
@@ -50,10 +50,10 @@ module _ (m c : ℕ) (low : 8 ≤ m) (small : m ≤ 64) (hc : c < 256) where
       (λ l. bit_past c 8 k (omega arith) l ∙ sym (added_is (m * 4) c k false true (le-ltb k 8 l) far))
       (cases_lt k 8)
 
-  middle_adds : (j : ℕ) → 8 ≤ j → j < m * 4 - 8 → added (m * 4) c j ≡ false
+  middle_adds : (j : ℕ) → 8 ≤ j → j < m * 4 - 8 → counter_bit (m * 4) c j ≡ false
   middle_adds j l h = added_is (m * 4) c j false true (le-ltb j 8 l) (lt-ltb j (m * 4 - 8) h)
 
-  last_adds : (k : ℕ) → k < m → bit last k ≡ added (m * 4) c (3 * m + k)
+  last_adds : (k : ℕ) → k < m → bit last k ≡ counter_bit (m * 4) c (3 * m + k)
   last_adds k h =
       let j = 3 * m + k in
       let s = m - 8 in
@@ -71,20 +71,20 @@ module _ (m c : ℕ) (low : 8 ≤ m) (small : m ≤ 64) (hc : c < 256) where
 
   pub counter_holds : (q₀ q₁ q₂ q₃ r₀ r₃ : Bits) (bs : List Bool) → length bs ≡ m * 4
       → ((k : ℕ) → k < 64 → r₀ k ≡ differs (q₀ k) (bit c k)) → ((k : ℕ) → k < 64 → r₃ k ≡ differs (q₃ k) (bit last k))
-      → Holds m (q₀ ∷ q₁ ∷ q₂ ∷ q₃ ∷ []) bs → Holds m (r₀ ∷ q₁ ∷ q₂ ∷ r₃ ∷ []) (count c bs)
-  unfolding count
+      → Holds m (q₀ ∷ q₁ ∷ q₂ ∷ q₃ ∷ []) bs → Holds m (r₀ ∷ q₁ ∷ q₂ ∷ r₃ ∷ []) (with_counter c bs)
+  unfolding with_counter
   counter_holds q₀ q₁ q₂ q₃ r₀ r₃ bs len e₀ e₃ h j inside =
       let k = j % m in
       let some : 0 < m = omega arith in
       let hk : k < m = mod_below j m some in
-      let plain : (q : Bits) (n : ℕ) → 8 ≤ n → n < m * 4 - 8 → q k ≡ differs (q k) (added (m * 4) c n) =
+      let plain : (q : Bits) (n : ℕ) → 8 ≤ n → n < m * 4 - 8 → q k ≡ differs (q k) (counter_bit (m * 4) c n) =
       λ q n l u. sym (ap (differs (q k)) (middle_adds n l u) ∙ keeps (q k)) in
       let zeroth : k ≡ 0 * m + k = omega arith in
-      by_four (λ t. word_bit (r₀ ∷ q₁ ∷ q₂ ∷ r₃ ∷ []) t k ≡ differs (word_bit (q₀ ∷ q₁ ∷ q₂ ∷ q₃ ∷ []) t k) (added (m * 4) c (t * m + k)))
-      (e₀ k (omega arith) ∙ ap (differs (q₀ k)) (first_adds k hk ∙ ap (added (m * 4) c) zeroth))
+      by_four (λ t. word_bit (r₀ ∷ q₁ ∷ q₂ ∷ r₃ ∷ []) t k ≡ differs (word_bit (q₀ ∷ q₁ ∷ q₂ ∷ q₃ ∷ []) t k) (counter_bit (m * 4) c (t * m + k)))
+      (e₀ k (omega arith) ∙ ap (differs (q₀ k)) (first_adds k hk ∙ ap (counter_bit (m * 4) c) zeroth))
       (plain q₁ (1 * m + k) (omega arith) (omega arith))
       (plain q₂ (2 * m + k) (omega arith) (omega arith))
       (e₃ k (omega arith) ∙ ap (differs (q₃ k)) (last_adds k hk))
       (j / m) (div_below j m 4 some (omega arith))
-      ∙ ap₂ differs (h j inside) (ap (added (m * 4) c) (div-add-mod' j m) ∙ ap (λ b. added b c j) (sym len))
-      ∙ sym (get_or-map-range_with_len (counted c bs) 0 (length bs) j j false (omega arith) (zero-add j))
+      ∙ ap₂ differs (h j inside) (ap (counter_bit (m * 4) c) (div-add-mod' j m) ∙ ap (λ b. counter_bit b c j) (sym len))
+      ∙ sym (get_or-map-range_with_len (bit_with_counter c bs) 0 (length bs) j j false (omega arith) (zero-add j))

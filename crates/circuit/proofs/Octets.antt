@@ -5,7 +5,7 @@ use Rattle.std.specs.Int.{from_le_bytes, to_le_bytes}
 use Rattle.std.proofs.lemmas.Nat.{le_bytes_8, div_below, mod_below, mod-pow-add, div-mul-add, mod-mul-add, div-add-mod'}
 use Rattle.std.proofs.lemmas.List.FromFn.{get_or-map-range_with_len}
 use Rattle.std.proofs.lemmas.Bool.{cases_lt, lt-ltb, le-ltb}
-use Rattle.binary.specs.Bits.{bit, one, word, bit_of, bits, block, byte_of, made}
+use Rattle.binary.specs.Bits.{bit, bit_number, word, bit_of, bits, block, byte_of, list_from_fn}
 use Rattle.binary.proofs.BitLaws.{bit_of_or, bit_suc}
 use Rattle.binary.proofs.RotationLaws.{bit_shr, bit_mod, bit_past}
 use Rattle.binary.proofs.NumberLaws.{word_ext}
@@ -40,10 +40,10 @@ six_bits xs bs i n k h len small same e =
     byte (suc (suc (suc (suc (suc (suc j)))))) h = absurd (omega arith)
 
 -- a number from its lowest bits
-one_low : (x : ℕ) → one (bit x 0) ≡ x % 2
+one_low : (x : ℕ) → bit_number (bit x 0) ≡ x % 2
 one_low x = low (x / 1 % 2) (omega arith) ∙ omega arith
   where
-    low : (u : ℕ) → u < 2 → one (eqb u 1) ≡ u
+    low : (u : ℕ) → u < 2 → bit_number (eqb u 1) ≡ u
     low zero h = refl
     low (suc zero) h = refl
     low (suc (suc u)) h = absurd (omega arith)
@@ -121,7 +121,7 @@ loaded m ws xs some len h j inside =
 
 -- the bytes of words that hold a block are the block
 pub stored : (m n a b c d : ℕ) (bs : List Bool) → 0 < m → n * 2 ≡ m → Holds m (one_at a 0 ∷ one_at b 0 ∷ one_at c 0 ∷ one_at d 0 ∷ []) bs
-    → made n (λ k. word (packed_bit m (a ∷ b ∷ c ∷ d ∷ 0 ∷ [])) (8 * k) 8) ≡ block n bs
+    → list_from_fn n (λ k. word (packed_bit m (a ∷ b ∷ c ∷ d ∷ 0 ∷ [])) (8 * k) 8) ≡ block n bs
 unfolding block
 stored m n a b c d bs some len h =
     made_ext 0 (λ k. word (packed_bit m (a ∷ b ∷ c ∷ d ∷ 0 ∷ [])) (8 * k) 8) (byte_of bs) n (λ k hk.

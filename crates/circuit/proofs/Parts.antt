@@ -3,9 +3,9 @@ use Rattle.std.proofs.Common.{◌≡◌, ℕ, ◌+◌, ◌*◌, ◌<◌, ◌≤�
 use Rattle.std.proofs.lemmas.List.{length-append, append-nil, length-take-le, length-drop, drop_at, take_all}
 use Rattle.std.proofs.lemmas.Bool.{eqb-true}
 use Rattle.binary.specs.Bits.{bits, block}
-use Rattle.engine.specs.Calls.{replaced}
+use Rattle.engine.specs.Calls.{place_by_length}
 use Rattle.engine.specs.Permutation.{each}
-use Rattle.engine.specs.Spongent.{after, spongent}
+use Rattle.engine.specs.Spongent.{bits_after, spongent}
 use Rattle.engine.proofs.BlockLaws.{Done}
 
 -- block i of several
@@ -22,14 +22,14 @@ rest_same f n k xs ys same within done =
     ap (drop (k * n)) done ∙ drop_at (each f n k xs) (drop (k * n) xs) (k * n) front
 
 -- the bytes of the bits after all rounds, where old is what stood in the part
-pub part_done : (first rounds : ℕ) (old part new : List ℕ) → old ≡ part → new ≡ block (length old) (after first rounds (bits part)) → new ≡ spongent first rounds old
+pub part_done : (first rounds : ℕ) (old part new : List ℕ) → old ≡ part → new ≡ block (length old) (bits_after first rounds (bits part)) → new ≡ spongent first rounds old
 unfolding spongent
-part_done first rounds old part new e is = is ∙ ap (λ v. block (length old) (after first rounds (bits v))) (sym e)
+part_done first rounds old part new e is = is ∙ ap (λ v. block (length old) (bits_after first rounds (bits v))) (sym e)
 
 -- one block is the only one
-pub one_part : (f : List ℕ → List ℕ) (n : ℕ) (xs : List ℕ) → replaced (1 * n) (each f n 1) xs ≡ replaced n f xs
+pub one_part : (f : List ℕ → List ℕ) (n : ℕ) (xs : List ℕ) → place_by_length (1 * n) (each f n 1) xs ≡ place_by_length n f xs
 unfolding each
-one_part f n xs = ap (λ m. replaced m (each f n 1) xs) (one-mul n) ∙ by (eqb (length xs) n) refl
+one_part f n xs = ap (λ m. place_by_length m (each f n 1) xs) (one-mul n) ∙ by (eqb (length xs) n) refl
   where
     by : (b : Bool) → eqb (length xs) n ≡ b → cond b (each f n 1 xs) xs ≡ cond b (f xs) xs
     by true e = let all : length xs ≡ n = eqb-true (length xs) n e in append-nil (f (take n xs)) ∙ ap f (take_all n xs (omega arith))

@@ -61,5 +61,5 @@ abbrev pub Holds : ℕ → List Bits → List Bool → Type 0
 Holds m ws bs = (j : ℕ) → j < m * 4 → block_bit m ws j ≡ slice_index_or bs j false
 
 -- Block i of blocks of n bytes side by side.
-abbrev pub part : ℕ → ℕ → List ℕ → List ℕ
-part n i xs = take n (drop (i * n) xs)
+abbrev pub block_at : ℕ → ℕ → List ℕ → List ℕ
+block_at n i xs = take n (drop (i * n) xs)

@@ -1,7 +1,7 @@
 // The bytes of blocks in words, and back.
 ghost use Rattle.std.specs.Prelude.{◌≡◌, ℕ, ◌+◌, ◌*◌, ◌/◌, ◌%◌, ◌<◌, ◌≤◌, Bool, List, length};
 ghost use Rattle.binary.specs.Bits.{bit, bit_of, bits, block, word};
-ghost use Rattle.circuit.specs.Planes.{of_block, one_at, part, Holds};
+ghost use Rattle.circuit.specs.Planes.{of_block, one_at, block_at, Holds};
 ghost use Rattle.circuit.specs.Packed.{packed_bit};
 
 use crate::family::Spongent;
@@ -30,7 +30,7 @@ fn word_from(xs: &[u8], p: usize) -> u64
 // Word t of block i, and above that bits of other words or none.
 fn quarter<S: Spongent>(blocks: &[u8], i: usize, t: usize) -> u64
     requires { (i * (S.WIDTH / 2) + S.WIDTH / 2 ≤ length blocks.now) × (t < 4) }
-    ensures { (k : ℕ) → k < S.WIDTH → bit result k ≡ bit_of (part (S.WIDTH / 2) i blocks.now) (t * S.WIDTH + k) }
+    ensures { (k : ℕ) → k < S.WIDTH → bit result k ≡ bit_of (block_at (S.WIDTH / 2) i blocks.now) (t * S.WIDTH + k) }
 {
     let m = S::WIDTH as usize;
     let n = m / 2;
@@ -40,7 +40,7 @@ fn quarter<S: Spongent>(blocks: &[u8], i: usize, t: usize) -> u64
 // Word t of each block.
 fn quarters<S: Spongent, W: Word>(blocks: &[u8], t: usize) -> W
     requires { (length blocks.now ≡ W.BLOCKS * (S.WIDTH / 2)) × (t < 4) }
-    ensures { (i k : ℕ) → i < W.BLOCKS → k < S.WIDTH → W.at result i k ≡ bit_of (part (S.WIDTH / 2) i blocks.now) (t * S.WIDTH + k) }
+    ensures { (i k : ℕ) → i < W.BLOCKS → k < S.WIDTH → W.at result i k ≡ bit_of (block_at (S.WIDTH / 2) i blocks.now) (t * S.WIDTH + k) }
 {
     W::from_fn(|i| quarter::<S>(blocks, i, t))
 }
@@ -48,7 +48,7 @@ fn quarters<S: Spongent, W: Word>(blocks: &[u8], t: usize) -> W
 // The blocks in words.
 pub(crate) fn load<S: Spongent, W: Word>(blocks: &[u8]) -> Planes<W>
     requires { length blocks.now ≡ W.BLOCKS * (S.WIDTH / 2) }
-    ensures { (i : ℕ) → i < W.BLOCKS → Holds S.WIDTH (of_block W.at result i) (bits (part (S.WIDTH / 2) i blocks.now)) }
+    ensures { (i : ℕ) → i < W.BLOCKS → Holds S.WIDTH (of_block W.at result i) (bits (block_at (S.WIDTH / 2) i blocks.now)) }
 {
     Planes {
         a: quarters::<S, W>(blocks, 0),

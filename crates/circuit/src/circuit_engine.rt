@@ -1,6 +1,6 @@
 // The circuit engine, which permutes the blocks of Dumbo and Jumbo by whole words.
 ghost use Rattle.std.specs.Prelude.{◌≡◌, ◌*◌};
-ghost use Rattle.engine.specs.Calls.{answered, replaced};
+ghost use Rattle.engine.specs.Calls.{answer_by_length, place_by_length};
 ghost use Rattle.engine.specs.Permutation.{block_size, permutation, each};
 ghost use Rattle.circuit.specs.Kinds.{kind_of};
 
@@ -22,8 +22,8 @@ pub enum Circuit {
 impl Circuit {
     // Replaces each block by the permutation of it. A place of another length is refused and left as it was.
     fn replace<W: Word>(self, blocks: &mut [u8]) -> Result<(), EngineFault>
-        ensures answer { result ≡ answered (W.BLOCKS * block_size (kind_of self)) blocks.old }
-        ensures blocks { blocks.new ≡ replaced (W.BLOCKS * block_size (kind_of self)) (each (permutation (kind_of self)) (block_size (kind_of self)) W.BLOCKS) blocks.old }
+        ensures answer { result ≡ answer_by_length (W.BLOCKS * block_size (kind_of self)) blocks.old }
+        ensures blocks { blocks.new ≡ place_by_length (W.BLOCKS * block_size (kind_of self)) (each (permutation (kind_of self)) (block_size (kind_of self)) W.BLOCKS) blocks.old }
     {
         if blocks.len() != W::BLOCKS * self.variant().block_bytes() {
             return Err(EngineFault::BlockLength);

@@ -4,7 +4,7 @@ use native.Mathlib.Nat.{mul-add-mod_self_right}
 use Rattle.std.proofs.lemmas.Bool.{cases_eq, cases_lt, eq-eqb, ne_eqb}
 use Rattle.std.proofs.lemmas.Nat.{mul-add-lt, mod-mul-add, div-mul-add}
 use Rattle.std.proofs.lemmas.List.FromFn.{get_or-map-range_with_len}
-use Rattle.engine.specs.Spongent.{place, move, moved}
+use Rattle.engine.specs.Spongent.{place, move, moved_bit}
 
 -- bit 4 k + i goes to place i (b / 4) + k
 pub place_is : (m k i : ℕ) → k < m → i < 4 → place (m * 4) (k * 4 + i) ≡ i * m + k
@@ -39,5 +39,5 @@ moves bs j four h =
     let to : place (length bs) j ≡ i * m + k = ap₂ place all (sym parts) ∙ place_is m k i hk hi in
     let inside : i * m + k < length bs = omega (arith, mul-add-lt i m k 4 hi hk) in
     ap (λ p. get_or (move bs) p false) to
-    ∙ get_or-map-range_with_len (moved bs) 0 (length bs) (i * m + k) (i * m + k) false inside (omega arith)
+    ∙ get_or-map-range_with_len (moved_bit bs) 0 (length bs) (i * m + k) (i * m + k) false inside (omega arith)
     ∙ ap₂ (λ x y. get_or bs (x * 4 + y) false) (mod-mul-add i m k hk) (div-mul-add i m k hk) ∙ ap (λ x. get_or bs x false) parts

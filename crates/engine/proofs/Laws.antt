@@ -3,11 +3,11 @@ use Rattle.std.proofs.Common.{◌≡◌, ℕ, ◌*◌, ◌<◌, Bool, false, Lis
 use Rattle.std.proofs.lemmas.List.FromFn.{length-map-range_with_len, get_or-map-range_with_len}
 use Rattle.std.proofs.lemmas.List.{get_or_past}
 use Rattle.std.proofs.lemmas.Bool.{cases_lt}
-use Rattle.binary.specs.Bits.{bits, block, byte_of, made}
-use Rattle.engine.specs.Spongent.{after, spongent}
-use Rattle.engine.specs.Keccak.{after as keccak_after, keccak, constants}
+use Rattle.binary.specs.Bits.{bits, block, byte_of, list_from_fn}
+use Rattle.engine.specs.Spongent.{bits_after, spongent}
+use Rattle.engine.specs.Keccak.{state_after as keccak_after, keccak, constants}
 use Rattle.engine.specs.Permutation.{permutation}
-use Rattle.engine.specs.Theorems.{Laws, constant}
+use Rattle.engine.specs.Theorems.{PermutationLaws, constant}
 use Rattle.engine.specs.declared.variants.Variant.{Variant}
 use Rattle.engine.specs.declared.variants.Variant.TheVariants.{Dumbo, Jumbo, Delirium}
 use Rattle.binary.proofs.NumberLaws.{word_lt}
@@ -28,20 +28,20 @@ block_byte n bs k =
 
 pub permutation_length : (v : Variant) (xs : List ℕ) → length (permutation v xs) ≡ length xs
 unfolding permutation spongent keccak
-permutation_length Dumbo xs = block_length (length xs) (after 0x75 80 (bits xs))
-permutation_length Jumbo xs = block_length (length xs) (after 0x45 90 (bits xs))
+permutation_length Dumbo xs = block_length (length xs) (bits_after 0x75 80 (bits xs))
+permutation_length Jumbo xs = block_length (length xs) (bits_after 0x45 90 (bits xs))
 permutation_length Delirium xs = block_length (length xs) (keccak_after 18 (bits xs))
 
 pub permutation_byte : (v : Variant) (xs : List ℕ) (k : ℕ) → get_or (permutation v xs) k 0 < 256
 unfolding permutation spongent keccak
-permutation_byte Dumbo xs k = block_byte (length xs) (after 0x75 80 (bits xs)) k
-permutation_byte Jumbo xs k = block_byte (length xs) (after 0x45 90 (bits xs)) k
+permutation_byte Dumbo xs k = block_byte (length xs) (bits_after 0x75 80 (bits xs)) k
+permutation_byte Jumbo xs k = block_byte (length xs) (bits_after 0x45 90 (bits xs)) k
 permutation_byte Delirium xs k = block_byte (length xs) (keccak_after 18 (bits xs)) k
 
-pub constants_from_register : constants ≡ made 18 constant
+pub constants_from_register : constants ≡ list_from_fn 18 constant
 constants_from_register = refl
 
-pub laws : Laws
+pub laws : PermutationLaws
 laws =
     record {
       bits_move = moves;

@@ -1,7 +1,7 @@
 -- Laws of the definitions that the public documents state in other words.
-use Rattle.std.specs.Prelude.{◌≡◌, ℕ, zero, suc, ◌+◌, ◌*◌, ◌%◌, ◌<◌, Bool, true, false, ◌↔◌, cond, List, length, bit_xor, nat_lt, slice_index, slice_index_or}
+use Rattle.std.specs.Prelude.{◌≡◌, ℕ, zero, suc, ◌+◌, ◌*◌, ◌%◌, ◌<◌, Bool, true, false, ◌↔◌, if◌then◌else◌, List, length, bit_xor, nat_lt, slice_index, slice_index_or}
 use Rattle.fault.specs.Checks.{granted}
-use Rattle.binary.specs.Bits.{made}
+use Rattle.binary.specs.Bits.{list_from_fn}
 use Rattle.engine.specs.Spongent.{place, move}
 use Rattle.engine.specs.Keccak.{constants}
 use Rattle.engine.specs.Permutation.{block_size, permutation, each}
@@ -15,7 +15,7 @@ BitsMoveToTheirPlaces = (bs : List Bool) (j : ℕ) → length bs % 4 ≡ 0 → j
 -- The shift register that gives the bits of Keccak's round constants, after t steps.
 abbrev pub register : ℕ → ℕ
 register zero = 1
-register (suc t) = cond (nat_lt (2 * register t) 256) (2 * register t) (bit_xor (2 * register t) 0x171)
+register (suc t) = if nat_lt (2 * register t) 256 then 2 * register t else bit_xor (2 * register t) 0x171
 
 -- Its output bit after t steps.
 abbrev pub rc : ℕ → ℕ
@@ -27,7 +27,7 @@ constant i = rc (7 * i) + 2 * rc (1 + 7 * i) + 8 * rc (2 + 7 * i) + 128 * rc (3 
 
 -- The eighteen constants are those of the shift register.
 abbrev pub ConstantsComeFromTheRegister : Type 0
-ConstantsComeFromTheRegister = constants ≡ made 18 constant
+ConstantsComeFromTheRegister = constants ≡ list_from_fn 18 constant
 
 -- A permuted block is as long as the block, and its elements are bytes.
 pub record PermutationKeepsBlocks : Type 0 where
@@ -48,7 +48,7 @@ pub record CallsAreGrantedByLength : Type 0 where
       → (granted (one_answer v xs) ≡ false → one_after v xs ≡ xs) × (granted (four_answer v xs) ≡ false → four_after v xs ≡ xs)
 
 -- The laws together.
-pub record Laws : Type 0 where
+pub record PermutationLaws : Type 0 where
   pub bits_move : BitsMoveToTheirPlaces
   pub constants_from_register : ConstantsComeFromTheRegister
   pub permutation_keeps_blocks : PermutationKeepsBlocks

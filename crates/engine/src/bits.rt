@@ -1,6 +1,6 @@
 // The bits of a block as an array, and layers of a permutation, each given by the rule for one bit of its result.
 ghost use Rattle.std.specs.Prelude.{◌≡◌, ℕ, ◌*◌, ◌^◌, ◌<◌, ◌≤◌, Bool, List, length};
-ghost use Rattle.binary.specs.Bits.{bit, bits, block, value, made};
+ghost use Rattle.binary.specs.Bits.{bit, bits, block, value, list_from_fn};
 
 use std::array;
 
@@ -62,7 +62,7 @@ pub(crate) fn apply<L: BitLayer<BITS>, const BITS: usize>(
     old: &[bool; BITS],
 ) -> [bool; BITS]
     requires { L.suits }
-    ensures { result ≡ made (length old.now) (L.rule layer.now old.now) }
+    ensures { result ≡ list_from_fn (length old.now) (L.rule layer.now old.now) }
 {
     array::from_fn(
         |j: usize| -> bool

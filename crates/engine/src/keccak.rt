@@ -1,6 +1,6 @@
 // Keccak-f[200], bit by bit.
 ghost use Rattle.std.specs.Prelude.{◌≡◌, ℕ, ◌*◌, ◌/◌, ◌%◌, ◌<◌, Bool, List, length};
-ghost use Rattle.engine.specs.Keccak.{a, at, column, theta_at, rho_at, pi_at, chi_at, iota_at, round, keccak};
+ghost use Rattle.engine.specs.Keccak.{lane_bit, by_coordinates, column, theta_at, rho_at, pi_at, chi_at, iota_at, round, keccak};
 
 use crate::bits::{BitLayer, apply, get, pack, unpack};
 
@@ -32,7 +32,7 @@ impl Cell {
 
     // The bit of a state.
     fn get(self, s: &State) -> bool
-        ensures { result ≡ a s.now self.x self.y self.z }
+        ensures { result ≡ lane_bit s.now self.x self.y self.z }
     {
         s[8 * (5 * self.y + self.x) + self.z]
     }
@@ -54,7 +54,7 @@ impl Cell {
 struct Theta;
 
 impl BitLayer<BITS> for Theta {
-    ghost rule = { λ _ s. at (theta_at s) };
+    ghost rule = { λ _ s. by_coordinates (theta_at s) };
 
     ghost suits = { Unit {0} };
 
@@ -83,7 +83,7 @@ const OFFSETS: [usize; 25] = [
 struct Rho;
 
 impl BitLayer<BITS> for Rho {
-    ghost rule = { λ _ s. at (rho_at s) };
+    ghost rule = { λ _ s. by_coordinates (rho_at s) };
 
     ghost suits = { Unit {0} };
 
@@ -103,7 +103,7 @@ impl BitLayer<BITS> for Rho {
 struct Pi;
 
 impl BitLayer<BITS> for Pi {
-    ghost rule = { λ _ s. at (pi_at s) };
+    ghost rule = { λ _ s. by_coordinates (pi_at s) };
 
     ghost suits = { Unit {0} };
 
@@ -122,7 +122,7 @@ impl BitLayer<BITS> for Pi {
 struct Chi;
 
 impl BitLayer<BITS> for Chi {
-    ghost rule = { λ _ s. at (chi_at s) };
+    ghost rule = { λ _ s. by_coordinates (chi_at s) };
 
     ghost suits = { Unit {0} };
 
@@ -148,7 +148,7 @@ struct Iota {
 }
 
 impl BitLayer<BITS> for Iota {
-    ghost rule = { λ l s. at (iota_at l.constant s) };
+    ghost rule = { λ l s. by_coordinates (iota_at l.constant s) };
 
     ghost suits = { Unit {0} };
 
@@ -175,7 +175,7 @@ const CONSTANTS: [u8; 18] = [
 ];
 
 // The permutation of a block of 25 bytes.
-#[tactic(auto, unfolding(crate::specs::Keccak::after, crate::specs::Keccak::keccak))]
+#[tactic(auto, unfolding(crate::specs::Keccak::state_after, crate::specs::Keccak::keccak))]
 pub(crate) fn permute(block: &mut [u8])
     requires { length block.old ≡ 25 }
     ensures { block.new ≡ keccak 18 block.old }

@@ -1,6 +1,6 @@
 // Spongent, bit by bit.
 ghost use Rattle.std.specs.Prelude.{◌≡◌, ◌*◌, ◌%◌, ◌<◌, ◌≤◌, length};
-ghost use Rattle.engine.specs.Spongent.{added, next, counted, substituted, moved, round, spongent};
+ghost use Rattle.engine.specs.Spongent.{counter_bit, next_counter, bit_with_counter, substituted_bit, moved_bit, round, spongent};
 
 use crate::bits::{BitLayer, apply, get, number, pack, unpack};
 
@@ -25,7 +25,7 @@ struct AddCounter {
 }
 
 impl<const BITS: usize> BitLayer<BITS> for AddCounter {
-    ghost rule = { λ l. counted l.counter };
+    ghost rule = { λ l. bit_with_counter l.counter };
 
     ghost suits = { Unit {0} };
 
@@ -37,7 +37,7 @@ impl<const BITS: usize> BitLayer<BITS> for AddCounter {
 // The bit that the counter adds at place j of b.
 fn counter_bit(b: usize, c: u8, j: usize) -> bool
     requires { j < b }
-    ensures { result ≡ added b c j }
+    ensures { result ≡ counter_bit b c j }
 {
     let low = j < 8 && get(c, j);
     let high = j >= b.saturating_sub(8) && get(c, b - 1 - j);
@@ -49,7 +49,7 @@ fn counter_bit(b: usize, c: u8, j: usize) -> bool
 struct Substitute;
 
 impl<const BITS: usize> BitLayer<BITS> for Substitute {
-    ghost rule = { λ _. substituted };
+    ghost rule = { λ _. substituted_bit };
 
     ghost suits = { BITS % 4 ≡ 0 };
 
@@ -65,7 +65,7 @@ impl<const BITS: usize> BitLayer<BITS> for Substitute {
 struct Move;
 
 impl<const BITS: usize> BitLayer<BITS> for Move {
-    ghost rule = { λ _. moved };
+    ghost rule = { λ _. moved_bit };
 
     ghost suits = { BITS % 4 ≡ 0 };
 
@@ -85,15 +85,15 @@ fn one_round<const BITS: usize>(s: &[bool; BITS], counter: u8) -> [bool; BITS]
 }
 
 /// The counter of the next round.
-#[tactic(auto, unfolding(crate::specs::Spongent::next))]
+#[tactic(auto, unfolding(crate::specs::Spongent::next_counter))]
 pub fn next_counter(c: u8) -> u8
-    ensures { result ≡ next c }
+    ensures { result ≡ next_counter c }
 {
     c % 64 * 2 + (get(c, 6) ^ get(c, 5)) as u8
 }
 
 // The permutation of a block of so many bits, where the counter starts at `first`.
-#[tactic(auto, unfolding(crate::specs::Spongent::after, crate::specs::Spongent::counter, crate::specs::Spongent::spongent))]
+#[tactic(auto, unfolding(crate::specs::Spongent::bits_after, crate::specs::Spongent::counter, crate::specs::Spongent::spongent))]
 pub(crate) fn permute<const BITS: usize>(block: &mut [u8], first: u8, rounds: u8)
     requires { (BITS ≡ 8 * length block.old) × (BITS ≤ 200) }
     ensures { block.new ≡ spongent first rounds block.old }

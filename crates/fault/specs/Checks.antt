@@ -1,5 +1,5 @@
 -- How an operation refuses: its checks are made in order, and the first that fails decides.
-use Rattle.std.specs.Prelude.{Bool, true, false, cond, List, [], ◌∷◌, Ok, Err, Result}
+use Rattle.std.specs.Prelude.{Bool, true, false, if◌then◌else◌, List, [], ◌∷◌, Ok, Err, Result}
 
 -- A check: whether it is passed, and the fault that it refuses with where it is not.
 abbrev pub Check : Type 0 → Type 0
@@ -8,7 +8,7 @@ Check F = Bool × F
 -- The answer after all checks: the fault of the first that fails, or x where none does.
 abbrev pub decided : {X F : Type 0} → List (Check F) → X → Result X F
 decided [] x = Ok x
-decided (c ∷ cs) x = cond c.0 (decided cs x) (Err c.1)
+decided (c ∷ cs) x = if c.0 then decided cs x else Err c.1
 
 -- Whether an answer is granted.
 abbrev pub granted : {X F : Type 0} → Result X F → Bool

@@ -3,7 +3,7 @@ use Rattle.std.proofs.Common.{◌≡◌, ℕ, ◌+◌, ◌<◌, ◌≤◌, Bool,
 use Rattle.std.specs.Str.{bytes_eq}
 use Rattle.engine.specs.declared.variants.Variant.{Variant}
 use Rattle.std.proofs.lemmas.Bool.{ltb-true, leb-true, cond_both}
-use Rattle.list.specs.Insertion.{has_equal, inserted}
+use Rattle.list.specs.Insertion.{has_equal, list_with}
 use Rattle.list.specs.Order.{Rising, by_key, by_key_is_total}
 use Rattle.list.specs.declared.faults.ListFault.{ListFault}
 use Rattle.list.specs.declared.faults.ListFault.TheVariants.{EqualEntry, Full}
@@ -38,11 +38,11 @@ record Enrolls (e : RegisterEntry) (xs ys : List RegisterEntry) : Type 0 where
   rising : Rising order xs → Rising order ys
 
 enrolls_by : (e : RegisterEntry) (xs ys : List RegisterEntry) (h t : Bool) → has_equal order e xs ≡ h → ltb (length xs) 64 ≡ t
-    → cond h (Err EqualEntry) (cond t (Ok (inserted order e xs)) (Err Full)) ≡ Ok ys → Enrolls e xs ys
+    → cond h (Err EqualEntry) (cond t (Ok (list_with order e xs)) (Err Full)) ≡ Ok ys → Enrolls e xs ys
 enrolls_by e xs ys true t p q r = absurd (let z : ◌≡◌ {A = ℕ} 0 1 = cc in omega arith)
 enrolls_by e xs ys false false p q r = absurd (let z : ◌≡◌ {A = ℕ} 0 1 = cc in omega arith)
 enrolls_by e xs ys false true p q r =
-    let i : inserted order e xs ≡ ys = cc in
+    let i : list_with order e xs ≡ ys = cc in
     let l = ltb-true (length xs) 64 q in
     record {
       more = omega (arith, length_inserted order e xs, ap length i);

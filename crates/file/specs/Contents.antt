@@ -2,7 +2,7 @@
 use Rattle.std.specs.Prelude.{ℕ, cond, List, [], ◌∷◌, length, Ok, Err, Result, nat_lt}
 use Rattle.engine.specs.declared.variants.Variant.{Variant}
 use Rattle.engine.specs.declared.variants.Variant.TheVariants.{Dumbo}
-use Rattle.list.specs.Insertion.{has_equal, inserted}
+use Rattle.list.specs.Insertion.{has_equal, list_with}
 use Rattle.list.specs.Order.{by_key}
 use Rattle.list.specs.declared.faults.ListFault.{ListFault}
 use Rattle.list.specs.declared.faults.ListFault.TheVariants.{EqualEntry, Full}
@@ -29,7 +29,7 @@ pub record Contents : Type 0 where
 abbrev pub enrolled : RegisterEntry → List RegisterEntry → Result (List RegisterEntry) ListFault
 enrolled e register =
     cond (has_equal (by_key (λ x. x.bidder)) e register) (Err EqualEntry)
-    (cond (nat_lt (length register) 64) (Ok (inserted (by_key (λ x. x.bidder)) e register)) (Err Full))
+    (cond (nat_lt (length register) 64) (Ok (list_with (by_key (λ x. x.bidder)) e register)) (Err Full))
 
 -- A sale with other values of the lot, and with another register.
 abbrev pub with_lot : ℕ → Variant → Bytes → Sale → Sale

@@ -6,7 +6,7 @@ use Rattle.std.proofs.lemmas.Bool.{cases_lt, lt-ltb, le-ltb, ltb-true, eqb-true,
 use Rattle.binary.specs.Bits.{bit, differs}
 use Rattle.binary.proofs.BitLaws.{bit_of_and, bit_of_xor}
 use Rattle.binary.proofs.RotationLaws.{bit_shr, bit_shl, bit_shl_low, bit_mod}
-use Rattle.interleaved.specs.Moves.{exchanged, apart, Moved}
+use Rattle.interleaved.specs.Moves.{exchange_source, are_apart, Moved}
 
 -- a bit x added to what the exchange with a takes from it
 toggled : (m x a : Bool) → differs x (differs x a && m) ≡ cond m a x
@@ -60,8 +60,8 @@ bit_up w x k p h =
     bit_mod (x * 2 ^ k) w p h ∙ ap (bit (x * 2 ^ k)) back ∙ bit_shl x k (p - k) ∙ ap (λ b. cond b false (bit x (p - k))) (sym (le-ltb p k l)))
     (cases_lt p k)
 
-pub bit_exchange : (w x k m p : ℕ) → p < w → apart k m p ≡ true
-    → bit (bit_xor (bit_xor x (taken x k m)) ((taken x k m * 2 ^ k) % 2 ^ w)) p ≡ bit x (exchanged k m p)
+pub bit_exchange : (w x k m p : ℕ) → p < w → are_apart k m p ≡ true
+    → bit (bit_xor (bit_xor x (taken x k m)) ((taken x k m * 2 ^ k) % 2 ^ w)) p ≡ bit x (exchange_source k m p)
 bit_exchange w x k m p h e =
     let t = taken x k m in
     let z = bit x (p - k) in
@@ -89,13 +89,13 @@ abbrev pub EachPlace : (ℕ → Bool) → Type 0
 EachPlace f = agree_below f (λ _. true) 32 ≡ true
 
 -- One exchange more, by which no bit leaves the word.
-pub exchange_from : {x : ℕ} {s : ℕ → ℕ} {y : ℕ} (k m z : ℕ) → From x s y → ((p : ℕ) → p < 32 → apart k m p ≡ true → bit z p ≡ bit y (exchanged k m p))
-    → EachPlace (apart k m) → EachPlace (λ p. ltb (exchanged k m p) 32) → From x (λ p. s (exchanged k m p)) z
+pub exchange_from : {x : ℕ} {s : ℕ → ℕ} {y : ℕ} (k m z : ℕ) → From x s y → ((p : ℕ) → p < 32 → are_apart k m p ≡ true → bit z p ≡ bit y (exchange_source k m p))
+    → EachPlace (are_apart k m) → EachPlace (λ p. ltb (exchange_source k m p) 32) → From x (λ p. s (exchange_source k m p)) z
 exchange_from k m z from e clear inside =
     record {
       at = λ p h.
-          let stays = ltb-true (exchanged k m p) 32 (agree_below_at (λ p. ltb (exchanged k m p) 32) (λ _. true) 32 p inside h) in
-          e p h (agree_below_at (apart k m) (λ _. true) 32 p clear h) ∙ from.at (exchanged k m p) stays;
+          let stays = ltb-true (exchange_source k m p) 32 (agree_below_at (λ p. ltb (exchange_source k m p) 32) (λ _. true) 32 p inside h) in
+          e p h (agree_below_at (are_apart k m) (λ _. true) 32 p clear h) ∙ from.at (exchange_source k m p) stays;
     }
 
 -- The places that all exchanges together take the bits from.

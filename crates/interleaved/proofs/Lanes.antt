@@ -2,8 +2,8 @@
 use Rattle.std.proofs.Common.{◌≡◌, ℕ, ◌+◌, ◌-◌, ◌*◌, ◌/◌, ◌%◌, ◌<◌, Bool, false, List, length, get_or, sym, ap, ◌∙◌, ap₂, arith, lit<}
 use Rattle.std.proofs.lemmas.List.FromFn.{get_or-map-range_with_len, length-map-range_with_len}
 use Rattle.std.proofs.lemmas.Nat.{mod_below}
-use Rattle.binary.specs.Bits.{bit, made}
-use Rattle.engine.specs.Keccak.{a, at, column, offsets, theta_at, rho_at, pi_at, chi_at, theta, rho, pi, chi}
+use Rattle.binary.specs.Bits.{bit, list_from_fn}
+use Rattle.engine.specs.Keccak.{lane_bit, by_coordinates, column, offsets, theta_at, rho_at, pi_at, chi_at, theta, rho, pi, chi}
 use Rattle.binary.proofs.WordLaws.{Has, and_has, xor_has, not_has}
 use Rattle.binary.proofs.RotationLaws.{turned, turned_lt, bit_turned}
 use Rattle.interleaved.specs.Words.{lane, by_lane, words, turn, w_column, w_theta, w_rho, w_pi, w_chi}
@@ -11,28 +11,28 @@ use Rattle.interleaved.specs.Words.{lane, by_lane, words, turn, w_column, w_thet
 -- The words hold the state s as that of block i.
 pub record Lane (i : ℕ) (ws : List ℕ) (s : List Bool) : Type 0 where
   pub long : length s ≡ 200
-  pub at_lane : (x y z : ℕ) → x < 5 → y < 5 → z < 8 → Has 32 (4 * z + i) (lane ws x y) (a s x y z)
+  pub at_lane : (x y z : ℕ) → x < 5 → y < 5 → z < 8 → Has 32 (4 * z + i) (lane ws x y) (lane_bit s x y z)
 
 words_at : (G : ℕ → ℕ → ℕ) (x y : ℕ) → x < 5 → y < 5 → lane (words G) x y ≡ G x y
 words_at G x y hx hy =
     get_or-map-range_with_len (by_lane G) 0 25 (5 * y + x) (5 * y + x) 0 (omega arith) (omega arith) ∙ ap₂ G (omega arith) (omega arith)
 
 -- a state made by a rule for each of its bits
-pub state_at : (n : ℕ) (F : ℕ → ℕ → ℕ → Bool) (x y z : ℕ) → n ≡ 200 → x < 5 → y < 5 → z < 8 → a (made n (at F)) x y z ≡ F x y z
+pub state_at : (n : ℕ) (F : ℕ → ℕ → ℕ → Bool) (x y z : ℕ) → n ≡ 200 → x < 5 → y < 5 → z < 8 → lane_bit (list_from_fn n (by_coordinates F)) x y z ≡ F x y z
 state_at n F x y z all hx hy hz =
     let j = 8 * (5 * y + x) + z in
     let l : j / 8 ≡ 5 * y + x = omega arith in
     let ex : (5 * y + x) % 5 ≡ x = omega arith in
     let ey : (5 * y + x) / 5 ≡ y = omega arith in
     let ez : j % 8 ≡ z = omega arith in
-    get_or-map-range_with_len (at F) 0 n j j false (omega arith) (omega arith)
+    get_or-map-range_with_len (by_coordinates F) 0 n j j false (omega arith) (omega arith)
     ∙ ap₂ (λ m n. F (m % 5) (m / 5) n) l ez ∙ ap₂ (λ m n. F m n z) ex ey
 
 step_lane : (i n : ℕ) (G : ℕ → ℕ → ℕ) (F : ℕ → ℕ → ℕ → Bool) → n ≡ 200
-    → ((x y z : ℕ) → x < 5 → y < 5 → z < 8 → Has 32 (4 * z + i) (G x y) (F x y z)) → Lane i (words G) (made n (at F))
+    → ((x y z : ℕ) → x < 5 → y < 5 → z < 8 → Has 32 (4 * z + i) (G x y) (F x y z)) → Lane i (words G) (list_from_fn n (by_coordinates F))
 step_lane i n G F all h =
     record {
-      long = length-map-range_with_len (at F) 0 n ∙ all;
+      long = length-map-range_with_len (by_coordinates F) 0 n ∙ all;
       at_lane = λ x y z hx hy hz.
           let e = words_at G x y hx hy in
           let f = state_at n F x y z all hx hy hz in
@@ -51,7 +51,7 @@ turn_has {z} {i} {n} {b} r hr hz hi p =
     }
 
 module _ {i : ℕ} (hi : i < 4) (ws : List ℕ) (s : List Bool) (l : Lane i ws s) where
-  h : (x y z : ℕ) → x < 5 → y < 5 → z < 8 → Has 32 (4 * z + i) (lane ws x y) (a s x y z)
+  h : (x y z : ℕ) → x < 5 → y < 5 → z < 8 → Has 32 (4 * z + i) (lane ws x y) (lane_bit s x y z)
   h = l.at_lane
 
   col : (x z : ℕ) → x < 5 → z < 8 → Has 32 (4 * z + i) (w_column ws x) (column s x z)

@@ -2,22 +2,22 @@
 use Rattle.std.proofs.Common.{◌≡◌, ℕ, zero, suc, ◌+◌, ◌-◌, ◌*◌, ◌/◌, ◌%◌, ◌^◌, ◌<◌, Bool, eqb, sym, refl, ap, ◌∙◌, ap₂, ⊎_elim, mod-eq_of_lt, add-one, arith}
 use Rattle.std.proofs.lemmas.Bool.{cases_lt}
 use Rattle.std.proofs.lemmas.Nat.{mod-pow-add}
-use Rattle.binary.specs.Bits.{bit, one, word}
+use Rattle.binary.specs.Bits.{bit, bit_number, word}
 use Rattle.binary.proofs.BitLaws.{bit_suc}
 use Rattle.binary.proofs.NumberLaws.{word_ext}
 use Rattle.binary.proofs.RotationLaws.{bit_shr, bit_mod}
-use Rattle.interleaved.specs.Moves.{Moved, woven_from, unwoven_from}
-use Rattle.interleaved.specs.Words.{woven, lifted}
+use Rattle.interleaved.specs.Moves.{Moved, weave_source, unweave_source}
+use Rattle.interleaved.specs.Words.{woven_word, byte_in}
 
 -- bits of a list of bytes
 abbrev pub of_bytes : (ℕ → ℕ) → ℕ → Bool
 of_bytes g j = bit (g (j / 8)) (j % 8)
 
 -- the lowest bit as a number
-one_low : (x : ℕ) → one (bit x 0) ≡ x % 2
+one_low : (x : ℕ) → bit_number (bit x 0) ≡ x % 2
 one_low x = low (x / 1 % 2) (omega arith) ∙ omega arith
   where
-    low : (u : ℕ) → u < 2 → one (eqb u 1) ≡ u
+    low : (u : ℕ) → u < 2 → bit_number (eqb u 1) ≡ u
     low zero h = refl
     low (suc zero) h = refl
     low (suc (suc u)) h = absurd (omega arith)
@@ -34,7 +34,7 @@ low_word (suc w) x =
     shift k = omega arith
 
 -- a woven word, by the bytes of the word before
-pub woven_is : (g : ℕ → ℕ) (x r : ℕ) → r < 2 ^ 32 → ((p : ℕ) → p < 32 → bit x p ≡ of_bytes g p) → Moved woven_from x r → r ≡ woven g
+pub woven_is : (g : ℕ → ℕ) (x r : ℕ) → r < 2 ^ 32 → ((p : ℕ) → p < 32 → bit x p ≡ of_bytes g p) → Moved weave_source x r → r ≡ woven_word g
 woven_is g x r small bytes move =
     sym (mod-eq_of_lt small) ∙ low_word 32 r
     ∙ word_ext (bit r) (λ k. bit (g (k % 4)) (k / 4)) 0 0 32 (λ k hk.
@@ -44,7 +44,7 @@ woven_is g x r small bytes move =
     move p (omega arith) ∙ bytes (8 * (p % 4) + p / 4) (omega arith) ∙ ap₂ (λ i z. bit (g i) z) row col)
 
 -- the bytes of an unwoven word
-pub lifted_is : (x r i : ℕ) → i < 4 → Moved unwoven_from x r → r / 2 ^ (8 * i) % 2 ^ 8 ≡ lifted x i
+pub lifted_is : (x r i : ℕ) → i < 4 → Moved unweave_source x r → r / 2 ^ (8 * i) % 2 ^ 8 ≡ byte_in x i
 lifted_is x r i hi move =
     low_word 8 (r / 2 ^ (8 * i))
     ∙ word_ext (bit (r / 2 ^ (8 * i))) (λ z. bit x (4 * z + i)) 0 0 8 (λ z hz.

@@ -1,7 +1,7 @@
 -- The layers of Keccak on 25 words of 32 bits: bit 4 z + i of word 5 y + x is bit z of lane (x, y) of block i of four.
 -- These definitions serve the contracts inside this crate only: what the engine promises is said in the engine layer's words.
 use Rattle.std.specs.Prelude.{ℕ, zero, suc, ◌+◌, ◌-◌, ◌*◌, ◌/◌, ◌%◌, ◌^◌, List, bit_and, bit_or, bit_xor, slice_index, slice_set}
-use Rattle.binary.specs.Bits.{bit, made, word}
+use Rattle.binary.specs.Bits.{bit, list_from_fn, word}
 use Rattle.engine.specs.Keccak.{offsets, constants}
 
 -- Word (x, y).
@@ -14,7 +14,7 @@ by_lane G l = G (l % 5) (l / 5)
 
 -- The 25 words of which word (x, y) is G x y.
 abbrev pub words : (ℕ → ℕ → ℕ) → List ℕ
-words G = made 25 (by_lane G)
+words G = list_from_fn 25 (by_lane G)
 
 -- A word turned by r places towards the higher bits.
 abbrev pub turn : ℕ → ℕ → ℕ
@@ -38,8 +38,8 @@ abbrev pub w_chi : List ℕ → ℕ → ℕ → ℕ
 w_chi ws x y = bit_xor (lane ws x y) (bit_and (4294967295 - lane ws ((x + 1) % 5) y) (lane ws ((x + 2) % 5) y))
 
 -- The word of four bytes, byte i of them being f i: bit z of byte i comes to place 4 z + i.
-abbrev pub woven : (ℕ → ℕ) → ℕ
-woven f = word (λ k. bit (f (k % 4)) (k / 4)) 0 32
+abbrev pub woven_word : (ℕ → ℕ) → ℕ
+woven_word f = word (λ k. bit (f (k % 4)) (k / 4)) 0 32
 
 -- The first word has k added.
 abbrev pub w_add : ℕ → List ℕ → List ℕ
@@ -47,7 +47,7 @@ w_add k ws = slice_set ws 0 (bit_xor (slice_index ws 0) k)
 
 -- A constant goes to each of the four blocks.
 abbrev pub w_iota : ℕ → List ℕ → List ℕ
-w_iota c ws = w_add (woven (λ _. c)) ws
+w_iota c ws = w_add (woven_word (λ _. c)) ws
 
 -- The layers of a round before iota.
 abbrev pub w_layers : List ℕ → List ℕ
@@ -63,25 +63,25 @@ w_after zero ws = ws
 w_after (suc k) ws = w_round (slice_index constants k) (w_after k ws)
 
 -- Byte l of each of four neighbouring blocks in one word. Where there are fewer blocks, the others' bits are 0.
-abbrev pub gathered : List ℕ → ℕ → ℕ
-gathered xs l = woven (λ i. slice_index xs (25 * i + l))
+abbrev pub word_at : List ℕ → ℕ → ℕ
+word_at xs l = woven_word (λ i. slice_index xs (25 * i + l))
 
 -- The words of up to four neighbouring blocks.
-unfoldable pub loaded : List ℕ → List ℕ
-loaded xs = made 25 (gathered xs)
+unfoldable pub words_of_blocks : List ℕ → List ℕ
+words_of_blocks xs = list_from_fn 25 (word_at xs)
 
 -- The byte of block i in a word.
-abbrev pub lifted : ℕ → ℕ → ℕ
-lifted w i = word (λ z. bit w (4 * z + i)) 0 8
+abbrev pub byte_in : ℕ → ℕ → ℕ
+byte_in w i = word (λ z. bit w (4 * z + i)) 0 8
 
 -- The blocks xs where byte l of each is that of a word.
-abbrev pub scattered : ℕ → ℕ → List ℕ → List ℕ
-scattered w l xs = slice_set (slice_set (slice_set (slice_set xs l (lifted w 0)) (25 + l) (lifted w 1)) (50 + l) (lifted w 2)) (75 + l) (lifted w 3)
+abbrev pub blocks_with_word : ℕ → ℕ → List ℕ → List ℕ
+blocks_with_word w l xs = slice_set (slice_set (slice_set (slice_set xs l (byte_in w 0)) (25 + l) (byte_in w 1)) (50 + l) (byte_in w 2)) (75 + l) (byte_in w 3)
 
 -- Byte p of the neighbouring blocks that the words hold.
-abbrev pub stored_at : List ℕ → ℕ → ℕ
-stored_at ws p = lifted (slice_index ws (p % 25)) (p / 25)
+abbrev pub stored_byte : List ℕ → ℕ → ℕ
+stored_byte ws p = byte_in (slice_index ws (p % 25)) (p / 25)
 
 -- The first n bytes of the blocks.
-unfoldable pub stored : ℕ → List ℕ → List ℕ
-stored n ws = made n (stored_at ws)
+unfoldable pub blocks_of_words : ℕ → List ℕ → List ℕ
+blocks_of_words n ws = list_from_fn n (stored_byte ws)

@@ -1,6 +1,6 @@
 // The engine for Delirium that treats four blocks together. No branch and no index depends on the bytes of a block.
 ghost use Rattle.std.specs.Prelude.{◌≡◌, ◌*◌, ◌≤◌};
-ghost use Rattle.engine.specs.Calls.{answered, replaced};
+ghost use Rattle.engine.specs.Calls.{answer_by_length, place_by_length};
 ghost use Rattle.engine.specs.Permutation.{permutation, each};
 ghost use Rattle.engine.specs.declared.variants.Variant.TheVariants.{Delirium};
 
@@ -31,8 +31,8 @@ impl Engine for Interleaved {
 // Replaces each of up to four neighbouring blocks by the permutation of it. A place of another length is refused and left as it was.
 fn permute<const BLOCKS: usize>(blocks: &mut [u8]) -> Result<(), EngineFault>
     requires { BLOCKS ≤ 4 }
-    ensures answer { result ≡ answered (BLOCKS * 25) blocks.old }
-    ensures blocks { blocks.new ≡ replaced (BLOCKS * 25) (each (permutation Delirium) 25 BLOCKS) blocks.old }
+    ensures answer { result ≡ answer_by_length (BLOCKS * 25) blocks.old }
+    ensures blocks { blocks.new ≡ place_by_length (BLOCKS * 25) (each (permutation Delirium) 25 BLOCKS) blocks.old }
 {
     if blocks.len() != BLOCKS * BLOCK_BYTES {
         return Err(EngineFault::BlockLength);

@@ -1,8 +1,8 @@
 // The way of the bytes of blocks into the words that hold four blocks bit by bit, and back.
 ghost use Rattle.std.specs.Prelude.{◌≡◌, ℕ, ◌<◌, ◌≤◌, true, length, slice_index, slice_set};
 ghost use Rattle.binary.specs.Bits.{bit};
-ghost use Rattle.interleaved.specs.Moves.{exchanged, apart, Moved, woven_from, unwoven_from};
-ghost use Rattle.interleaved.specs.Words.{gathered, scattered, loaded, stored};
+ghost use Rattle.interleaved.specs.Moves.{exchange_source, are_apart, Moved, weave_source, unweave_source};
+ghost use Rattle.interleaved.specs.Words.{word_at, blocks_with_word, words_of_blocks, blocks_of_words};
 
 // The bytes of a block.
 pub(crate) const BLOCK_BYTES: usize = 25;
@@ -10,7 +10,7 @@ pub(crate) const BLOCK_BYTES: usize = 25;
 // Exchanges the bits of x under m with those k places above.
 fn exchange(x: u32, k: u32, m: u32) -> u32
     requires { k < 32 }
-    ensures { (p : ℕ) → p < 32 → apart k m p ≡ true → bit result p ≡ bit x (exchanged k m p) }
+    ensures { (p : ℕ) → p < 32 → are_apart k m p ≡ true → bit result p ≡ bit x (exchange_source k m p) }
 {
     let t = (x ^ (x >> k)) & m;
     x ^ t ^ (t << k)
@@ -18,7 +18,7 @@ fn exchange(x: u32, k: u32, m: u32) -> u32
 
 // Takes bit z of byte i to place 4 z + i.
 fn weave(x: u32) -> u32
-    ensures { Moved woven_from x result }
+    ensures { Moved weave_source x result }
 {
     let a = exchange(x, 1, 0x22222222);
     let b = exchange(a, 7, 0x00AA00AA);
@@ -28,7 +28,7 @@ fn weave(x: u32) -> u32
 
 // Takes the bit at place 4 z + i to bit z of byte i: the exchanges of weave, the last of them first.
 fn unweave(x: u32) -> u32
-    ensures { Moved unwoven_from x result }
+    ensures { Moved unweave_source x result }
 {
     let a = exchange(x, 14, 0x0000CCCC);
     let b = exchange(a, 2, 0x0C0C0C0C);
@@ -55,7 +55,7 @@ fn put(blocks: &mut [u8], place: usize, byte: u8)
 // Byte l of each of four neighbouring blocks in one word. Where there are fewer blocks, the others' bits are 0.
 fn gather(blocks: &[u8], l: usize) -> u32
     requires { l < 25 }
-    ensures { result ≡ gathered blocks.now l }
+    ensures { result ≡ word_at blocks.now l }
 {
     weave(u32::from_le_bytes([
         byte_at(blocks, l),
@@ -68,7 +68,7 @@ fn gather(blocks: &[u8], l: usize) -> u32
 // Byte l of each of the blocks becomes that which a word holds.
 fn scatter(word: u32, l: usize, blocks: &mut [u8])
     requires { l < 25 }
-    ensures { blocks.new ≡ scattered word l blocks.old }
+    ensures { blocks.new ≡ blocks_with_word word l blocks.old }
 {
     let [first, second, third, fourth] = unweave(word).to_le_bytes();
     put(blocks, l, first);
@@ -79,7 +79,7 @@ fn scatter(word: u32, l: usize, blocks: &mut [u8])
 
 // The words of up to four neighbouring blocks.
 pub(crate) fn load(blocks: &[u8]) -> [u32; 25]
-    ensures { result ≡ loaded blocks.now }
+    ensures { result ≡ words_of_blocks blocks.now }
 {
     let mut words = [0; 25];
     for (l, word) in words.iter_mut().enumerate() {
@@ -91,7 +91,7 @@ pub(crate) fn load(blocks: &[u8]) -> [u32; 25]
 // Writes the first of the four blocks that the words hold, as many as there is room for.
 pub(crate) fn store(words: &[u32; 25], blocks: &mut [u8])
     requires { length blocks.old ≤ 100 }
-    ensures { blocks.new ≡ stored (length blocks.old) words.now }
+    ensures { blocks.new ≡ blocks_of_words (length blocks.old) words.now }
 {
     for (l, word) in words.iter().enumerate() {
         scatter(*word, l, blocks);

@@ -2,7 +2,7 @@
 use Rattle.std.proofs.Common.{◌≡◌, ℕ, ◌+◌, ◌-◌, ◌<◌, ◌≤◌, Bool, true, false, ltb, List, ◌∷◌, ◌++◌, length, take, drop, Some, None, Ok, Err, Option, Result, Ordering, sym, refl, ap, ◌∙◌, subst, arith}
 use Rattle.std.proofs.lemmas.List.{append_assoc, drop-take, length-append, length-drop, length-take-le, take_at, take-take}
 use Rattle.std.proofs.lemmas.Bool.{ltb-true}
-use Rattle.list.specs.Insertion.{has_equal, ahead, inserted, refusal, unless_refused, answer_of, count_after, places_after}
+use Rattle.list.specs.Insertion.{has_equal, count_ahead, list_with, refusal, unless_refused, answer_of, count_after, places_after}
 use Rattle.list.specs.Keeping.{RisingStaysRising, GainsOneEntry}
 use Rattle.list.specs.Order.{TotalOrder, Rising}
 use Rattle.list.specs.declared.faults.ListFault.{ListFault}
@@ -26,27 +26,27 @@ module _ {X : Type 0} (order : X → X → Ordering) (e : X) (ps : List X) (n : 
   granted = granted_by (has_equal order e (take n ps)) (ltb n (length ps)) refl refl
 
   -- the count was made over the entries xs
-  pub ahead_of : (at : ℕ) (xs : List X) → xs ≡ take n ps → at ≡ ahead order e xs → at ≡ ahead order e (take n ps)
-  ahead_of at xs p q = q ∙ ap (ahead order e) p
+  pub ahead_of : (at : ℕ) (xs : List X) → xs ≡ take n ps → at ≡ count_ahead order e xs → at ≡ count_ahead order e (take n ps)
+  ahead_of at xs p q = q ∙ ap (count_ahead order e) p
 
-  pub ahead_within : (at : ℕ) → n < length ps → at ≡ ahead order e (take n ps) → at ≤ n
+  pub ahead_within : (at : ℕ) → n < length ps → at ≡ count_ahead order e (take n ps) → at ≤ n
   ahead_within at l q = let u = ahead_le order e (take n ps) in let v = length-take-le n ps (omega arith) in omega arith
 
   -- to store e behind those ahead of it is to insert it
-  pub stored_is : (at : ℕ) → n < length ps → at ≡ ahead order e (take n ps) → take at ps ++ (e ∷ (take (n - at) (drop at ps) ++ drop (n + 1) ps)) ≡ inserted order e (take n ps) ++ drop (n + 1) ps
-  unfolding inserted
+  pub stored_is : (at : ℕ) → n < length ps → at ≡ count_ahead order e (take n ps) → take at ps ++ (e ∷ (take (n - at) (drop at ps) ++ drop (n + 1) ps)) ≡ list_with order e (take n ps) ++ drop (n + 1) ps
+  unfolding list_with
   stored_is at l q =
       let u = ahead_within at l q in
       let t : take at (take n ps) ≡ take at ps = take-take at n ps u in
       let s : n ≡ at + (n - at) = omega arith in
       let d : drop at (take n ps) ≡ take (n - at) (drop at ps) = ap (λ k. drop at (take k ps)) s ∙ drop-take at (n - at) ps in
-      let i : inserted order e (take n ps) ≡ take at ps ++ (e ∷ take (n - at) (drop at ps)) = ap (λ k. take k (take n ps) ++ (e ∷ drop k (take n ps))) (sym q) ∙ rw t (rw d refl) in
+      let i : list_with order e (take n ps) ≡ take at ps ++ (e ∷ take (n - at) (drop at ps)) = ap (λ k. take k (take n ps) ++ (e ∷ drop k (take n ps))) (sym q) ∙ rw t (rw d refl) in
       sym (ap (λ z. z ++ drop (n + 1) ps) i ∙ append_assoc (take at ps) (e ∷ take (n - at) (drop at ps)) (drop (n + 1) ps))
 
-  entries_inserted : n < length ps → take (n + 1) (inserted order e (take n ps) ++ drop (n + 1) ps) ≡ inserted order e (take n ps)
-  entries_inserted l = take_at (inserted order e (take n ps)) (drop (n + 1) ps) (n + 1) (length_inserted order e (take n ps) ∙ ap (λ k. k + 1) (length-take-le n ps (omega arith)))
+  entries_inserted : n < length ps → take (n + 1) (list_with order e (take n ps) ++ drop (n + 1) ps) ≡ list_with order e (take n ps)
+  entries_inserted l = take_at (list_with order e (take n ps)) (drop (n + 1) ps) (n + 1) (length_inserted order e (take n ps) ∙ ap (λ k. k + 1) (length-take-le n ps (omega arith)))
 
-  pub granted_entries : refusal order e ps n ≡ None → take (n + 1) (places_after order e ps n) ≡ inserted order e (take n ps)
+  pub granted_entries : refusal order e ps n ≡ None → take (n + 1) (places_after order e ps n) ≡ list_with order e (take n ps)
   granted_entries h = rw h (entries_inserted (granted h).1)
 
   length_by : (a b : Bool) → has_equal order e (take n ps) ≡ a → ltb n (length ps) ≡ b → length (places_after order e ps n) ≡ length ps
@@ -57,13 +57,13 @@ module _ {X : Type 0} (order : X → X → Ordering) (e : X) (ps : List X) (n : 
       let i = length_inserted order e (take n ps) in
       let w : length (take n ps) ≡ n = length-take-le n ps (omega arith) in
       let d = length-drop (n + 1) ps in
-      rw p (rw q (length-append (inserted order e (take n ps)) (drop (n + 1) ps) ∙ omega arith))
+      rw p (rw q (length-append (list_with order e (take n ps)) (drop (n + 1) ps) ∙ omega arith))
 
   pub length_places_after : length (places_after order e ps n) ≡ length ps
   length_places_after = length_by (has_equal order e (take n ps)) (ltb n (length ps)) refl refl
 
   -- e was stored behind the entries ahead of it, and the places are qs since then
-  module _ (none : refusal order e ps n ≡ None) (at : ℕ) (qs : List X) (found : at ≡ ahead order e (take n ps)) (stored : qs ≡ take at ps ++ (e ∷ (take (n - at) (drop at ps) ++ drop (n + 1) ps))) where
+  module _ (none : refusal order e ps n ≡ None) (at : ℕ) (qs : List X) (found : at ≡ count_ahead order e (take n ps)) (stored : qs ≡ take at ps ++ (e ∷ (take (n - at) (drop at ps) ++ drop (n + 1) ps))) where
     pub answer_is : Ok (n + 1) ≡ answer_of order e ps n
     answer_is = rw none refl
 
@@ -73,7 +73,7 @@ module _ {X : Type 0} (order : X → X → Ordering) (e : X) (ps : List X) (n : 
     pub places_are : qs ≡ places_after order e ps n
     places_are = rw none (stored ∙ stored_is at (granted none).1 found)
 
-    entries_are : take (n + 1) qs ≡ inserted order e (take n ps)
+    entries_are : take (n + 1) qs ≡ list_with order e (take n ps)
     entries_are = ap (take (n + 1)) places_are ∙ granted_entries none
 
     pub rising_after : TotalOrder order → RisingStaysRising order (take n ps) (take (n + 1) qs)

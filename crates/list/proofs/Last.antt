@@ -3,7 +3,7 @@ use Rattle.std.proofs.Common.{◌≡◌, ℕ, zero, suc, ◌+◌, ◌<◌, ◌�
 use Rattle.std.specs.Ordering.{is_eq, is_lt}
 use Rattle.std.proofs.lemmas.List.{append_assoc, drop_all, get_or-take, length-take-le, set_split, take_all}
 use Rattle.std.proofs.lemmas.Bool.{cases_lt, lt-ltb, or_from, true≢false}
-use Rattle.list.specs.Insertion.{has_equal, ahead, inserted, refusal, places_after}
+use Rattle.list.specs.Insertion.{has_equal, count_ahead, list_with, refusal, places_after}
 use Rattle.list.proofs.Inserted.{ahead_le, not_before}
 
 module _ {X : Type 0} (order : X → X → Ordering) (e : X) where
@@ -13,16 +13,16 @@ module _ {X : Type 0} (order : X → X → Ordering) (e : X) where
   none_equal (x ∷ xs) h = or_from (is_eq (order x e)) (has_equal order e xs) (ap is_eq (h zero x (omega arith))) (none_equal xs (λ k d l. h (suc k) d (omega arith)))
 
   module _ (xs : List X) (last : (k : ℕ) (d : X) → k < length xs → order (get_or xs k d) e ≡ Less) where
-    all_ahead : ahead order e xs ≡ length xs
+    all_ahead : count_ahead order e xs ≡ length xs
     all_ahead =
         let u = ahead_le order e xs in
         ⊎_elim
-        (λ (h : ahead order e xs < length xs). absurd (true≢false (sym (ap is_lt (last (ahead order e xs) e h)) ∙ not_before order e xs e h)))
-        (λ (h : length xs ≤ ahead order e xs). omega arith)
-        (cases_lt (ahead order e xs) (length xs))
+        (λ (h : count_ahead order e xs < length xs). absurd (true≢false (sym (ap is_lt (last (count_ahead order e xs) e h)) ∙ not_before order e xs e h)))
+        (λ (h : length xs ≤ count_ahead order e xs). omega arith)
+        (cases_lt (count_ahead order e xs) (length xs))
 
-    pub inserted_last : inserted order e xs ≡ xs ++ e ∷ []
-    unfolding inserted
+    pub inserted_last : list_with order e xs ≡ xs ++ e ∷ []
+    unfolding list_with
     inserted_last = rw all_ahead (rw (take_all (length xs) xs (omega arith)) (rw (drop_all (length xs) xs (omega arith)) refl))
 
   module _ (ps : List X) (n : ℕ) (room : n < length ps) (last : (k : ℕ) (d : X) → k < n → order (get_or ps k d) e ≡ Less) where

@@ -3,7 +3,7 @@ use Rattle.std.proofs.Common.{◌≡◌, ◌||◌, List, [], ◌∷◌, length, 
 use Rattle.std.specs.Ordering.{is_eq, is_lt}
 use Rattle.std.specs.List.{list_any, take_while}
 use Rattle.std.proofs.lemmas.List.Folds.{length-prefix_len}
-use Rattle.list.specs.Insertion.{has_equal, ahead}
+use Rattle.list.specs.Insertion.{has_equal, count_ahead}
 
 module _ {X : Type 0} (order : X → X → Ordering) (e : X) where
   -- any of the entries is equal in order to e
@@ -13,6 +13,6 @@ module _ {X : Type 0} (order : X → X → Ordering) (e : X) where
   any_equal (x ∷ xs) = ap (λ b. is_eq (order x e) || b) (any_equal xs)
 
   -- so many entries come before e
-  pub count_before : (xs : List X) → length (take_while (λ x. is_lt (order x e)) xs) ≡ ahead order e xs
-  unfolding ahead
+  pub count_before : (xs : List X) → length (take_while (λ x. is_lt (order x e)) xs) ≡ count_ahead order e xs
+  unfolding count_ahead
   count_before xs = length-prefix_len (λ x. is_lt (order x e)) xs

@@ -1,5 +1,5 @@
 -- What inserting an entry does: when it is refused, and what the places of the list hold afterwards.
-use Rattle.std.specs.Prelude.{ℕ, ◌+◌, Bool, false, cond, ◌||◌, List, [], ◌∷◌, ◌++◌, length, take, drop, Some, None, Ok, Err, Option, Result, nat_lt}
+use Rattle.std.specs.Prelude.{ℕ, ◌+◌, Bool, false, if◌then◌else◌, ◌||◌, List, [], ◌∷◌, ◌++◌, length, take, drop, Some, None, Ok, Err, Option, Result, nat_lt}
 use Rattle.std.specs.Borrow.{MutBor}
 use Rattle.std.specs.declared.cmp.Ordering.{Ordering}
 use Rattle.std.specs.Ordering.{is_eq, is_lt}
@@ -22,18 +22,17 @@ has_equal order e [] = false
 has_equal order e (x ∷ xs) = is_eq (order x e) || has_equal order e xs
 
 -- How many entries at the front of the list come before e.
-unfoldable pub ahead : {X : Type 0} → (X → X → Ordering) → X → List X → ℕ
-ahead order e xs = prefix_len (λ x. is_lt (order x e)) xs
+unfoldable pub count_ahead : {X : Type 0} → (X → X → Ordering) → X → List X → ℕ
+count_ahead order e xs = prefix_len (λ x. is_lt (order x e)) xs
 
 -- The list with e in it: behind the entries that are ahead of it, and in front of the others.
-unfoldable pub inserted : {X : Type 0} → (X → X → Ordering) → X → List X → List X
-inserted order e xs = take (ahead order e xs) xs ++ (e ∷ drop (ahead order e xs) xs)
+unfoldable pub list_with : {X : Type 0} → (X → X → Ordering) → X → List X → List X
+list_with order e xs = take (count_ahead order e xs) xs ++ (e ∷ drop (count_ahead order e xs) xs)
 
 -- The checks of an insertion, where the first n places hold the entries: an entry equal in order to e is refused first, then a full list.
 abbrev pub refusal : {X : Type 0} → (X → X → Ordering) → X → List X → ℕ → Option ListFault
 refusal order e places n =
-    cond (has_equal order e (take n places)) (Some EqualEntry)
-    (cond (nat_lt n (length places)) None (Some Full))
+    if has_equal order e (take n places) then Some EqualEntry else if nat_lt n (length places) then None else Some Full
 
 -- What comes of these checks: the first value if they refuse nothing, else the second by the reason.
 abbrev pub unless_refused : {A : Type 0} → Option ListFault → A → (ListFault → A) → A
@@ -51,4 +50,4 @@ count_after order e places n = unless_refused (refusal order e places n) (n + 1)
 -- What the places hold afterwards: the entries with e among them and then what lay behind, or all as before if it is refused.
 abbrev pub places_after : {X : Type 0} → (X → X → Ordering) → X → List X → ℕ → List X
 places_after order e places n =
-    unless_refused (refusal order e places n) (inserted order e (take n places) ++ drop (n + 1) places) (λ why. places)
+    unless_refused (refusal order e places n) (list_with order e (take n places) ++ drop (n + 1) places) (λ why. places)

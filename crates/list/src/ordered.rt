@@ -1,7 +1,7 @@
 // The list itself: its entries are the first places of a lent slice.
 
 ghost use Rattle.std.specs.Prelude.{◌≡◌, ◌+◌, ◌-◌, ◌<◌, ◌≤◌, ◌∷◌, ◌++◌, length, take, drop, Ok, Err};
-ghost use Rattle.list.specs.Insertion.{empty_over, entries_of, has_equal, ahead, refusal, unless_refused, answer_of, count_after, places_after};
+ghost use Rattle.list.specs.Insertion.{empty_over, entries_of, has_equal, count_ahead, refusal, unless_refused, answer_of, count_after, places_after};
 ghost use Rattle.list.specs.Keeping.{RisingStaysRising, KeepsEveryEntry};
 
 use crate::entry::Entry;
@@ -72,7 +72,7 @@ fn has_equal<T: Entry>(entries: &[T], e: &T) -> bool
 
 // How many entries at the front come before `e`. They are looked at one by one, since the entries of a list made over any places need not rise.
 fn count_ahead<T: Entry>(entries: &[T], e: &T) -> usize
-    ensures { result ≡ ahead T.compares e.now entries.now }
+    ensures { result ≡ count_ahead T.compares e.now entries.now }
 {
     entries.iter().take_while(|x| x.compare(e).is_lt()).count()
 }

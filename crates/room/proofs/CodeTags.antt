@@ -7,7 +7,7 @@ use Rattle.std.proofs.lemmas.Bool.{eq-eqb, true≢false}
 use Rattle.fault.specs.Checks.{left}
 use Rattle.engine.specs.declared.variants.Variant.{Variant}
 use Rattle.cipher.specs.Mode.{tag, opened_text}
-use Rattle.cipher.specs.Calls.{CheckedText, check_answer, open_answer, opened}
+use Rattle.cipher.specs.Calls.{CheckedText, check_answer, open_answer, text_of_checked}
 use Rattle.cipher.specs.Views.{open_seen}
 use Rattle.cipher.specs.declared.checked.Checked.{Checked}
 use Rattle.cipher.specs.Theorems.{LawfulSizes}
@@ -24,7 +24,7 @@ module _ (t : CheckedText) (out : Bytes) (long : length out ≡ length t.sealed)
   open_granted (Ok u) h = refl
   open_granted (Err e) h = absurd (not_both tt e.0 (sym (h ∙ ap (λ b. cond b (Ok tt) (Err OutputLength)) (eq-eqb _ _ long))))
 
-  pub open_writes : (r : Result (Unit {0}) (CipherFault × Checked)) → open_seen r ≡ open_answer t out → left r (opened t) out ≡ opened t
+  pub open_writes : (r : Result (Unit {0}) (CipherFault × Checked)) → open_seen r ≡ open_answer t out → left r (text_of_checked t) out ≡ text_of_checked t
   open_writes (Ok u) h = refl
   open_writes (Err e) h = absurd (true≢false (sym (open_granted (Err e) h)))
 
@@ -47,8 +47,8 @@ module _ (v : Variant) (key nonce ad text tag_place : Bytes) (sizes : LawfulSize
   checked_length t h = ap (λ z. length z.sealed) (check_passed t h).1
 
   pub opened_amount : (t : CheckedText) → ◌≡◌ {A = Result CheckedText CipherFault} (Ok t) (check_answer v key nonce ad text tag_place) → AllBelowBase 256 key → AllBelowBase 256 nonce
-      → (n : ℕ) (w : Bytes) → w ≡ opened t → n ≡ amount_offered w → n ≡ cond (bytes_eq tag_place (tag v key nonce ad text)) (amount_offered (opened_text v key nonce text)) 0
+      → (n : ℕ) (w : Bytes) → w ≡ text_of_checked t → n ≡ amount_offered w → n ≡ cond (bytes_eq tag_place (tag v key nonce ad text)) (amount_offered (opened_text v key nonce text)) 0
   opened_amount t h uk un n w ew en =
       let p = check_passed t h in
       let q = p.0 in
-      rw q (en ∙ ap amount_offered (ew ∙ ap opened p.1 ∙ opens_as_checked v key nonce text sizes.key_length sizes.nonce_length uk un))
+      rw q (en ∙ ap amount_offered (ew ∙ ap text_of_checked p.1 ∙ opens_as_checked v key nonce text sizes.key_length sizes.nonce_length uk un))

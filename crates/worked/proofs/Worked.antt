@@ -4,10 +4,10 @@ use Rattle.std.specs.Fmt.{digits}
 use Rattle.std.proofs.lemmas.List.{take_at}
 use Rattle.std.specs.Int.Digits.{number_from_digits}
 use Rattle.binary.specs.Bits.{bits, block}
-use Rattle.engine.specs.Spongent.{substitute, counter, next}
+use Rattle.engine.specs.Spongent.{substitute, counter, next_counter}
 use Rattle.cipher.specs.Blocks.{parts}
 use Rattle.cipher.specs.Masks.{phi1}
-use Rattle.cipher.specs.Mode.{closed}
+use Rattle.cipher.specs.Mode.{with_01}
 use Rattle.big_endian.specs.Numbers.{bytes_of}
 use Rattle.big_endian.proofs.Laws.{bytes_of_length}
 use Rattle.envelope.specs.Letters.{letter, amount_field, most_cents}
@@ -23,12 +23,12 @@ unfolding bits block substitute
 substitutes = (refl, refl)
 
 counts : (counter 0x75 1 ≡ 0x6A) × (counter 0x75 2 ≡ 0x54) × (counter 0x75 3 ≡ 0x29) × (counter 0x45 1 ≡ 0x0B) × (counter 0x45 2 ≡ 0x16)
-unfolding counter next
+unfolding counter next_counter
 counts = (refl, refl, refl, refl, refl)
 
 dumbo_part_count : (nonce associated : List ℕ) (n : ℕ) → length nonce ≡ 12 → length associated ≡ n → dumbo_parts nonce associated ≡ (12 + (n + 1) + 19) / 20
 dumbo_part_count nonce associated n a b =
-    ap (parts 20) (length-append nonce (closed associated) ∙ ap₂ ◌+◌ a (length-append associated (1 ∷ []) ∙ ap (λ m. m + 1) b))
+    ap (parts 20) (length-append nonce (with_01 associated) ∙ ap₂ ◌+◌ a (length-append associated (1 ∷ []) ∙ ap (λ m. m + 1) b))
 
 too_much : (note : List ℕ) → most_cents < amount_field (letter 1000000000000 note)
 unfolding letter

@@ -6,7 +6,7 @@ use Rattle.engine.specs.Permutation.{block_size}
 use Rattle.engine.specs.declared.variants.Variant.TheVariants.{Dumbo, Jumbo, Delirium}
 use Rattle.cipher.specs.Blocks.{parts}
 use Rattle.cipher.specs.Masks.{phi1}
-use Rattle.cipher.specs.Mode.{closed as with_01}
+use Rattle.cipher.specs.Mode.{with_01 as with_01}
 use Rattle.envelope.specs.Letters.{letter, lawful, most_note_bytes}
 use Rattle.room.specs.Page.{page}
 use Rattle.room.specs.Lot17.{page_17}

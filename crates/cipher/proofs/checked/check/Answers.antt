@@ -5,7 +5,7 @@ use Rattle.std.specs.Str.{bytes_eq}
 use Rattle.std.proofs.lemmas.List.{take_all}
 use Rattle.cipher.specs.Masks.{first_mask}
 use Rattle.cipher.specs.Mode.{tag, tag_from}
-use Rattle.cipher.specs.Groups.{held}
+use Rattle.cipher.specs.Groups.{block_in}
 use Rattle.cipher.specs.Calls.{CheckedText, check_answer}
 use Rattle.cipher.specs.Theorems.{LawfulSizes}
 use Rattle.cipher.specs.declared.faults.CipherFault.{CipherFault}
@@ -50,10 +50,10 @@ returns-then-not-branch g c =
     let en : nonce ≡ c.args.nonce.now = search rules in
     let sizes : LawfulSizes v c.args.key.now c.args.nonce.now associated sealed tag_place =
     record { key_length = search rules; nonce_length = search rules; associated_length = search rules; text_length = search rules; tag_length = search rules } in
-    let wrong : false ≡ bytes_eq tag_place (tag_from (g.E.Engine.kind keyed.engine.now) (held (g.E.Engine.kind keyed.engine.now) keyed.first) nonce associated sealed) = search rules in
+    let wrong : false ≡ bytes_eq tag_place (tag_from (g.E.Engine.kind keyed.engine.now) (block_in (g.E.Engine.kind keyed.engine.now) keyed.first) nonce associated sealed) = search rules in
     refused v c.args.key.now c.args.nonce.now associated sealed tag_place sizes
-    (tested v (held v keyed.first) c.args.key.now nonce c.args.nonce.now associated sealed tag_place false (c.in_ok-keyed.ensures.1 ∙ ap (first_mask v) ek) en
-    (wrong ∙ ap (λ e. bytes_eq tag_place (tag_from (g.E.Engine.kind e) (held (g.E.Engine.kind e) keyed.first) nonce associated sealed)) c.in_ok-keyed.ensures.0))
+    (tested v (block_in v keyed.first) c.args.key.now nonce c.args.nonce.now associated sealed tag_place false (c.in_ok-keyed.ensures.1 ∙ ap (first_mask v) ek) en
+    (wrong ∙ ap (λ e. bytes_eq tag_place (tag_from (g.E.Engine.kind e) (block_in (g.E.Engine.kind e) keyed.first) nonce associated sealed)) c.in_ok-keyed.ensures.0))
 
 pub returns : goal.returns
 returns g c =
@@ -70,9 +70,9 @@ returns g c =
     let ln : length c.args.nonce.now ≡ 12 = search rules in
     let sizes : LawfulSizes v key c.args.nonce.now associated sealed tag_place =
     record { key_length = lk; nonce_length = ln; associated_length = search rules; text_length = search rules; tag_length = search rules } in
-    let right : true ≡ bytes_eq tag_place (tag_from (g.E.Engine.kind keyed.engine.now) (held (g.E.Engine.kind keyed.engine.now) keyed.first) nonce associated sealed) = search rules in
-    let same = tested v (held v keyed.first) key nonce c.args.nonce.now associated sealed tag_place true (c.in_ok-keyed.ensures.1 ∙ ap (first_mask v) ek) en
-    (right ∙ ap (λ e. bytes_eq tag_place (tag_from (g.E.Engine.kind e) (held (g.E.Engine.kind e) keyed.first) nonce associated sealed)) c.in_ok-keyed.ensures.0) in
+    let right : true ≡ bytes_eq tag_place (tag_from (g.E.Engine.kind keyed.engine.now) (block_in (g.E.Engine.kind keyed.engine.now) keyed.first) nonce associated sealed) = search rules in
+    let same = tested v (block_in v keyed.first) key nonce c.args.nonce.now associated sealed tag_place true (c.in_ok-keyed.ensures.1 ∙ ap (first_mask v) ek) en
+    (right ∙ ap (λ e. bytes_eq tag_place (tag_from (g.E.Engine.kind e) (block_in (g.E.Engine.kind e) keyed.first) nonce associated sealed)) c.in_ok-keyed.ensures.0) in
     passed v c.variant-variant.result c.from_be_bytes.result c.number_of.result key c.args.nonce.now associated sealed tag_place sizes same c.variant-variant.ensures.answer
     (c.from_be_bytes.ensures ∙ ap (from_be_bytes w128) ek ∙ sixteen_read key lk)
     (c.number_of.ensures ∙ ap (number_from_digits 256) (take_all 16 c.args.nonce.now (omega arith)))

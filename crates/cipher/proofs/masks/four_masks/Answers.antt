@@ -1,22 +1,22 @@
 use Rattle.std.proofs.Common.{◌≡◌, ℕ, List, ◌+◌, ◌-◌, ◌*◌, ◌≤◌, length, take, sym, refl, ap, ◌∙◌, arith, rules}
 use Rattle.engine.specs.Permutation.{block_size}
-use Rattle.cipher.specs.Blocks.{repeated, stream}
+use Rattle.cipher.specs.Blocks.{iterate, stream}
 use Rattle.cipher.specs.Masks.{phi1, phi2, mask}
-use Rattle.cipher.specs.Groups.{held}
+use Rattle.cipher.specs.Groups.{block_in}
 use Rattle.cipher.proofs.StreamLaws.{repeated_more, laid_none, laid_more, rows}
 use Rattle.cipher.proofs.MaskLaws.{mask_length}
 use Rattle.cipher.proofs.RoomLaws.{held_length, laid_front, narrow}
 use Rattle.cipher.proofs.masks.four_masks.Goals as goal
 
 pub loop-q-init : goal.loop-q-init
-unfolding repeated
-loop-q-init c = record { running = refl; masks = laid_none (λ q. mask c.args.variant (held c.args.variant c.args.running.now) q c.args.j) c.block_bytes-n.result c.args.masks.now }
+unfolding iterate
+loop-q-init c = record { running = refl; masks = laid_none (λ q. mask c.args.variant (block_in c.args.variant c.args.running.now) q c.args.j) c.block_bytes-n.result c.args.masks.now }
 
 pub loop-q-preserved : goal.loop-q-preserved
-unfolding mask repeated
+unfolding mask iterate
 loop-q-preserved c =
     let v = c.args.variant in
-    let first = held v c.args.running.now in
+    let first = block_in v c.args.running.now in
     let n = c.block_bytes-n.result in
     let q = c.loop-q.q in
     let wide : n ≡ block_size v = c.block_bytes-n.ensures in
@@ -28,13 +28,13 @@ loop-q-preserved c =
       masks =
           laid_more (λ q. mask v first q c.args.j) n q c.args.masks.now c.loop-q.masks c.copy_from_slice.new.self
           (λ k. mask_length v first k c.args.j long ∙ sym wide) fits c.loop-q.invariant.masks
-          (c.copy_from_slice.ensures.after ∙ ap (λ m. take m c.mask.result) cut ∙ c.mask.ensures ∙ ap (repeated (phi2 v) c.args.j) c.loop-q.invariant.running);
+          (c.copy_from_slice.ensures.after ∙ ap (λ m. take m c.mask.result) cut ∙ c.mask.ensures ∙ ap (iterate (phi2 v) c.args.j) c.loop-q.invariant.running);
     }
 
 pub returns-clause-masks : goal.returns-clause-masks
 returns-clause-masks c =
     let v = c.args.variant in
-    let first = held v c.args.running.now in
+    let first = block_in v c.args.running.now in
     let n = c.block_bytes-n.result in
     let end : c.loop-q.q ≡ 4 = omega arith in
     let wide : block_size v ≡ n = sym c.block_bytes-n.ensures in

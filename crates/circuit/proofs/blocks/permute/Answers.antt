@@ -1,8 +1,8 @@
 use Rattle.std.proofs.Common.{◌≡◌, ℕ, ◌+◌, ◌-◌, ◌*◌, ◌/◌, ◌<◌, ◌≤◌, length, take, drop, ap, ◌∙◌, ap₂, arith}
 use Rattle.binary.specs.Bits.{bits}
-use Rattle.engine.specs.Spongent.{after, spongent}
+use Rattle.engine.specs.Spongent.{bits_after, spongent}
 use Rattle.engine.proofs.BlockLaws.{Done, done_none, done_more}
-use Rattle.circuit.specs.Planes.{of_block, one_at, part, block_bit, Holds}
+use Rattle.circuit.specs.Planes.{of_block, one_at, block_at, block_bit, Holds}
 use Rattle.circuit.proofs.Layers.{bits_length}
 use Rattle.circuit.proofs.Parts.{within, part_length, rest_same, part_done}
 use Rattle.circuit.proofs.blocks.permute.Goals as goal
@@ -28,10 +28,10 @@ loop-i-preserved g c =
     let same : length ys ≡ length xs = c.loop-i.auto.blocks in
     let done : Done f n i xs ys = rw c.WIDTH.ensures at c.loop-i.invariant in
     let width : i * n + n - i * n ≡ n = omega arith in
-    let stands : old ≡ part n i xs = ap₂ take width (rest_same f n i xs ys same inside done) in
-    let long : length (part n i xs) ≡ n = part_length n (i * n) xs inside in
-    let wide_bits : length (bits (part n i xs)) ≡ m * 4 = bits_length (part n i xs) ∙ ap (λ (k : ℕ). 8 * k) long ∙ omega (arith, wide) in
-    let held : Holds m (of_block one_at c.lane.result 0) (after first rounds (bits (part n i xs))) =
-    λ j l. ap (λ v. block_bit m v j) c.lane.ensures ∙ c.all_rounds-r.ensures i (bits (part n i xs)) wide_bits (c.load-p.ensures i hi) j l in
-    let stored = rw c.WIDTH.ensures at (c.store.ensures (after first rounds (bits (part n i xs))) held) in
-    rw c.WIDTH.ensures (done_more f n i xs ys new same inside done (part_done first rounds old (part n i xs) new stands stored))
+    let stands : old ≡ block_at n i xs = ap₂ take width (rest_same f n i xs ys same inside done) in
+    let long : length (block_at n i xs) ≡ n = part_length n (i * n) xs inside in
+    let wide_bits : length (bits (block_at n i xs)) ≡ m * 4 = bits_length (block_at n i xs) ∙ ap (λ (k : ℕ). 8 * k) long ∙ omega (arith, wide) in
+    let held : Holds m (of_block one_at c.lane.result 0) (bits_after first rounds (bits (block_at n i xs))) =
+    λ j l. ap (λ v. block_bit m v j) c.lane.ensures ∙ c.all_rounds-r.ensures i (bits (block_at n i xs)) wide_bits (c.load-p.ensures i hi) j l in
+    let stored = rw c.WIDTH.ensures at (c.store.ensures (bits_after first rounds (bits (block_at n i xs))) held) in
+    rw c.WIDTH.ensures (done_more f n i xs ys new same inside done (part_done first rounds old (block_at n i xs) new stands stored))

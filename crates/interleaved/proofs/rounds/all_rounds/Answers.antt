@@ -1,18 +1,18 @@
 use Rattle.std.proofs.Common.{◌≡◌, ℕ, suc, ◌+◌, ◌*◌, ◌<◌, List, [], ◌∷◌, get_or, refl, ap, ◌∙◌, ap₂, add-one, zero-add, arith}
 use Rattle.std.proofs.lemmas.List.FromFn.{get_or-map-range_with_len}
-use Rattle.binary.specs.Bits.{made}
+use Rattle.binary.specs.Bits.{list_from_fn}
 use Rattle.engine.specs.Keccak.{constants}
-use Rattle.interleaved.specs.Words.{woven, w_add, w_layers, w_round, w_after}
+use Rattle.interleaved.specs.Words.{woven_word, w_add, w_layers, w_round, w_after}
 use Rattle.interleaved.proofs.rounds.all_rounds.Goals as goal
 
 -- The constant of round k for each block, and the pair of those of two rounds.
 abbrev constant : ℕ → ℕ
-constant k = woven (λ _. get_or constants k 0)
+constant k = woven_word (λ _. get_or constants k 0)
 
 abbrev pair : ℕ → List ℕ
 pair k = constant (2 * k) ∷ constant (2 * k + 1) ∷ []
 
-pair_at : (k : ℕ) → k < 9 → get_or (made 9 pair) k [] ≡ pair k
+pair_at : (k : ℕ) → k < 9 → get_or (list_from_fn 9 pair) k [] ≡ pair k
 pair_at k h = get_or-map-range_with_len pair 0 9 k k [] h (zero-add k)
 
 -- Two rounds more.

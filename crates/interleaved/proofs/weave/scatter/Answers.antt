@@ -1,5 +1,5 @@
 use Rattle.std.proofs.Common.{◌≡◌, ℕ, ◌+◌, ◌*◌, ◌/◌, ◌%◌, ◌^◌, ◌<◌, List, get_or, set, ap, ◌∙◌, ap₂, arith, lit<}
-use Rattle.interleaved.specs.Words.{lifted}
+use Rattle.interleaved.specs.Words.{byte_in}
 use Rattle.interleaved.proofs.Weaving.{lifted_is}
 use Rattle.interleaved.proofs.weave.scatter.Goals as goal
 
@@ -7,7 +7,7 @@ pub returns : goal.returns
 returns c =
     let l = c.args.l in
     let r = c.unweave.result in
-    let byte : (i : ℕ) → i < 4 → r / 2 ^ (8 * i) % 2 ^ 8 ≡ lifted c.args.word i = λ i h. lifted_is c.args.word r i h c.unweave.ensures in
+    let byte : (i : ℕ) → i < 4 → r / 2 ^ (8 * i) % 2 ^ 8 ≡ byte_in c.args.word i = λ i h. lifted_is c.args.word r i h c.unweave.ensures in
     let low : r % 256 ≡ r / 1 % 256 = omega arith in
     let read = c.to_le_bytes.ensures in
     let put : ℕ → List ℕ → ℕ → List ℕ = λ p xs b. set xs p b in
