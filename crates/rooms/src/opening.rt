@@ -47,10 +47,7 @@ pub fn print_page<E: Engine + Copy>(rt: &HostRuntime, room: &Room<E>) -> anyhow:
 }
 
 // Opens a room with nothing lent: what is refused first shows.
-pub fn open_with_nothing<E: Engine + Copy>(
-    rt: &HostRuntime,
-    room: &Room<E>,
-) -> anyhow::Result<()> {
+pub fn open_with_nothing<E: Engine + Copy>(rt: &HostRuntime, room: &Room<E>) -> anyhow::Result<()> {
     let nothing = Sizes {
         sheet: 0,
         page: 0,
@@ -60,10 +57,7 @@ pub fn open_with_nothing<E: Engine + Copy>(
 }
 
 // Opens a room with one place or byte too few of each kind, and with one byte too many to work in.
-pub fn open_with_others<E: Engine + Copy>(
-    rt: &HostRuntime,
-    room: &Room<E>,
-) -> anyhow::Result<()> {
+pub fn open_with_others<E: Engine + Copy>(rt: &HostRuntime, room: &Room<E>) -> anyhow::Result<()> {
     let sheet = Sizes {
         sheet: 63,
         ..ENOUGH
