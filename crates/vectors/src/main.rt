@@ -18,10 +18,9 @@ use engine::{Engine, Plain, Variant, permutation_laws_stand};
 use interleaved::Interleaved;
 use published::{try_keccak, try_spongent};
 use records::{Answers, read_answers};
-use std::alloc::Global;
 use std::fs;
 use tallies::Tally;
-use trials::agrees;
+use trials::try_records;
 
 // What is published of the permutations.
 const KECCAK: &str = "published values of Keccak-f[200]";
@@ -66,7 +65,7 @@ fn interleaved() -> Named<Interleaved> {
 }
 
 // Runs published values through an engine of their permutation, by a trial that counts those met.
-fn run_values<E: Engine, F: FnOnce(Global, &E) -> Tally>(
+fn run_values<E: Engine, F: FnOnce(&E) -> Tally>(
     rt: &HostRuntime,
     asked: &Asked,
     values: &str,
@@ -77,7 +76,7 @@ fn run_values<E: Engine, F: FnOnce(Global, &E) -> Tally>(
 {
     let name = named.name;
     if asked.wants(name) {
-        let tally = trial(rt.alloc(), &named.engine);
+        let tally = trial(&named.engine);
         println!(rt; "{values}, {name} engine: {tally}")?;
     }
     Ok(())
@@ -91,27 +90,6 @@ fn run_published(rt: &HostRuntime, asked: &Asked) -> anyhow::Result<()> {
     run_values(rt, asked, SPONGENT, &circuit(Circuit::Jumbo), try_spongent)
 }
 
-// Tries records by an engine, all or every so many, and tells each that does not agree.
-fn try_records<E: Engine>(
-    rt: &HostRuntime,
-    asked: &Asked,
-    named: &Named<E>,
-    answers: &Answers,
-) -> anyhow::Result<Tally> {
-    let name = named.name;
-    let variant = named.engine.variant();
-    let mut tally = Tally::new();
-    for record in answers.records.iter().step_by(asked.step(name)) {
-        let agreed = agrees(rt.alloc(), &named.engine, record)?;
-        tally.count(agreed);
-        if !agreed {
-            let number = record.number;
-            eprintln!(rt; "{variant}, {name} engine: record {number} does not agree")?;
-        }
-    }
-    Ok(tally)
-}
-
 // Runs the records through an engine of their variant. It stands beside `run_values`, since a trial of records may fail, and is told by the variant.
 fn run_engine<E: Engine>(
     rt: &HostRuntime,
@@ -122,7 +100,16 @@ fn run_engine<E: Engine>(
     let name = named.name;
     if asked.wants(name) {
         let variant = named.engine.variant();
-        let tally = try_records(rt, asked, named, answers)?;
+        let trials = try_records(
+            rt.alloc(),
+            &named.engine,
+            asked.step(name),
+            &answers.records,
+        )?;
+        for number in &trials.disagreeing {
+            eprintln!(rt; "{variant}, {name} engine: record {number} does not agree")?;
+        }
+        let tally = trials.tally;
         println!(rt; "{variant}, {name} engine: {tally}")?;
     }
     Ok(())
@@ -133,7 +120,7 @@ fn run_variant(rt: &HostRuntime, asked: &Asked, variant: Variant) -> anyhow::Res
     let text = fs::read_to_string(rt, file_of(variant))?;
     let answers = read_answers(rt.alloc(), variant, text.as_str())?;
     let read = answers.records.len();
-    let unreadable = answers.unreadable;
+    let unreadable = answers.faults.len();
     println!(rt; "{variant}: {read} records read, {unreadable} could not be read")?;
     run_engine(rt, asked, &plain(variant), &answers)?;
     match variant {
