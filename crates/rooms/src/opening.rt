@@ -1,5 +1,5 @@
 // Openings, with as much lent to them as they need or less.
-use crate::telling::tell_refusal;
+use crate::telling::{Answer, tell};
 use engine::Engine;
 use envelope::LETTER_BYTES;
 use room::{MOST_BIDDERS, MOST_PAGE_BYTES, Room, SheetEntry};
@@ -35,8 +35,11 @@ fn open<E: Engine + Copy>(
     let mut page = vec![in rt.alloc(); 0u8; lent.page]?;
     let mut work = vec![in rt.alloc(); 0u8; lent.work]?;
     match room.open(&mut sheet, &mut page, &mut work) {
-        Ok(n) => io::writer(rt).write_all(&page[..n])?,
-        Err(fault) => tell_refusal(rt, call, fault)?,
+        Ok(n) => {
+            println!(rt; "{call}: this page, with amounts in cents")?;
+            io::writer(rt).write_all(&page[..n])?;
+        }
+        Err(fault) => tell(rt, call, Err(fault))?,
     }
     Ok(())
 }
