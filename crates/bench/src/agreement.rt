@@ -1,31 +1,88 @@
 // A fast engine beside the plain one of its variant.
+ghost use Rattle.std.specs.Prelude.{◌≡◌, ◌*◌, ◌≤◌, true, length, IfOk};
+ghost use Rattle.engine.specs.Permutation.{block_size};
+ghost use Rattle.bench.specs.Agreement.{agreement_on_one, agreement_on_four, agreement};
+
 use crate::source::Source;
 use engine::{Engine, Plain};
 use std::alloc::{AllocError, Global};
 
 const TRIALS: u32 = 64;
 
-// Whether both engines make the same of four blocks, by the call for four and by the call for one.
-fn agrees<E: Engine>(alloc: Global, engine: &E, source: &mut Source) -> Result<bool, AllocError> {
-    let variant = engine.variant();
-    let n = variant.block_bytes();
-    let plain = Plain { variant };
-    let mut ours = vec![in alloc; 0u8; 4 * n]?;
-    source.fill(&mut ours);
-    let mut theirs = ours.clone()?;
-    let four = engine.four(&mut ours).is_ok() && plain.four(&mut theirs).is_ok() && ours == theirs;
-    let one = engine.one(&mut ours[..n]).is_ok() && plain.one(&mut theirs[..n]).is_ok();
-    Ok(four && one && ours == theirs)
+// Whether two engines make the same of a block.
+fn agree_on_one<A: Engine, B: Engine>(
+    heap: Global,
+    ours: &A,
+    theirs: &B,
+    block: &[u8],
+) -> Result<bool, AllocError>
+    ensures { IfOk result (λ b. b ≡ agreement_on_one (A.kind ours.now) (B.kind theirs.now) block.now) }
+{
+    let mut left = Vec::from_slice(heap, block)?;
+    let mut right = Vec::from_slice(heap, block)?;
+    Ok(ours.one(&mut left).is_ok() && theirs.one(&mut right).is_ok() && left == right)
 }
 
-pub fn run_agreement<E: Engine>(rt: &HostRuntime, name: &str, engine: &E) -> anyhow::Result<()> {
-    let mut source = Source::new();
+// Whether two engines make the same of four blocks.
+fn agree_on_four<A: Engine, B: Engine>(
+    heap: Global,
+    ours: &A,
+    theirs: &B,
+    blocks: &[u8],
+) -> Result<bool, AllocError>
+    ensures { IfOk result (λ b. b ≡ agreement_on_four (A.kind ours.now) (B.kind theirs.now) blocks.now) }
+{
+    let mut left = Vec::from_slice(heap, blocks)?;
+    let mut right = Vec::from_slice(heap, blocks)?;
+    Ok(ours.four(&mut left).is_ok() && theirs.four(&mut right).is_ok() && left == right)
+}
+
+// Whether two engines make the same of four blocks by the call for four, and of the first by the call for one.
+fn agree<A: Engine, B: Engine>(
+    heap: Global,
+    ours: &A,
+    theirs: &B,
+    blocks: &[u8],
+) -> Result<bool, AllocError>
+    ensures { IfOk result (λ b. b ≡ agreement (A.kind ours.now) (B.kind theirs.now) blocks.now) }
+{
+    let n = ours.variant().block_bytes().min(blocks.len());
+    let four = agree_on_four(heap, ours, theirs, blocks)?;
+    let one = agree_on_one(heap, ours, theirs, &blocks[..n])?;
+    Ok(four && one)
+}
+
+// Whether an engine and the plain one of its variant agree on the next four blocks. They do, since every engine of a variant
+// has the same permutation.
+fn agrees<E: Engine>(heap: Global, engine: &E, source: &mut Source) -> Result<bool, AllocError>
+    ensures { IfOk result (λ b. b ≡ true) }
+{
+    let variant = engine.variant();
+    let mut blocks = vec![in heap; 0u8; 4 * variant.block_bytes()]?;
+    source.fill(&mut blocks);
+    agree(heap, engine, &Plain { variant }, &blocks)
+}
+
+// In how many of the trials an engine and the plain one agree: in all.
+fn agreed_trials<E: Engine>(
+    heap: Global,
+    engine: &E,
+    source: &mut Source,
+) -> Result<u32, AllocError>
+    ensures { IfOk result (λ n. n ≡ TRIALS) }
+{
     let mut agreed = 0u32;
     for _trial in 0..TRIALS {
-        if agrees(rt.alloc(), engine, &mut source)? {
-            agreed = agreed.saturating_add(1);
+        if agrees(heap, engine, source)? {
+            agreed += 1;
         }
     }
+    Ok(agreed)
+}
+
+/// Tries an engine beside the plain one on blocks that look random, and tells how often they agree.
+pub fn run_agreement<E: Engine>(rt: &HostRuntime, name: &str, engine: &E) -> anyhow::Result<()> {
+    let agreed = agreed_trials(rt.alloc(), engine, &mut Source::new())?;
     println!(rt; "{name} engine beside the plain one: {TRIALS} tried, {agreed} agreed")?;
     Ok(())
 }

@@ -7,12 +7,22 @@ mod measures;
 mod source;
 
 use agreement::run_agreement;
-use anyhow::anyhow;
+use arguments::{ended, read};
 use circuit::Circuit;
+use clap::{Arg, Command};
 use engine::{Engine, Plain, Variant};
 use interleaved::Interleaved;
 use measures::{measure_engine, measure_texts};
+use std::alloc::{AllocError, Global};
 use std::env;
+use std::process::ExitCode;
+
+// What `--help` tells.
+const ABOUT: &str =
+    "Compares each fast engine with the plain one of its variant on blocks that look random.";
+
+// The argument that has times measured.
+const MEASURE: &str = "measure";
 
 // Here and below the name of an engine goes beside it: a struct of both would be made for each call alone, and be taken apart in it.
 fn agreements(rt: &HostRuntime) -> anyhow::Result<()> {
@@ -40,16 +50,25 @@ fn measure(rt: &HostRuntime) -> anyhow::Result<()> {
     measure_texts(rt, "Delirium interleaved", &Interleaved)
 }
 
-fn run(rt: &HostRuntime) -> anyhow::Result<()> {
-    let mut words = env::args(rt)?;
-    let _program = words.next();
-    match words.next() {
-        None => agreements(rt),
-        Some(word) if word.as_str() == "measure" => measure(rt),
-        Some(_) => Err(anyhow!("the argument is `measure`, or there is none")),
-    }
+// The argument that the program takes.
+fn command<'a>(alloc: Global) -> Result<Command<'a>, AllocError> {
+    let what = Arg::new(alloc, "what")
+        .value_name(MEASURE)
+        .help("Measures the time of blocks and of sealed texts instead")
+        .value_parser([MEASURE].as_slice());
+    Command::new(alloc, "bench").about(ABOUT).arg(what)
 }
 
-fn main(rt: HostRuntime) -> anyhow::Result<()> {
-    run(&rt)
+fn run(rt: &HostRuntime) -> anyhow::Result<ExitCode> {
+    let words: Vec<String> = env::args(rt)?.collect(rt.alloc())?;
+    match read(command(rt.alloc())?, words.as_slice()) {
+        Ok(matches) if matches.contains_id("what") => measure(rt)?,
+        Ok(_none) => agreements(rt)?,
+        Err(notice) => return Ok(notice.print(rt)?),
+    }
+    Ok(ExitCode::SUCCESS)
+}
+
+fn main(rt: HostRuntime) -> ExitCode {
+    ended(&rt, "bench", run(&rt))
 }

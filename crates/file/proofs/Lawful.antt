@@ -16,6 +16,7 @@ use Rattle.file.specs.Form.{Items, end, broken, item, lot_item, bidder_item, env
 use Rattle.file.specs.Numbers.{number_of}
 use Rattle.file.specs.Theorems.{AcceptedFilesKeepLimits}
 use Rattle.file.specs.Hexadecimal.{written_bytes}
+use Rattle.file.specs.Input.{most_bytes}
 use Rattle.file.specs.Lines.{Lines, finished, torn, line, lines}
 use Rattle.file.specs.declared.faults.FileFault.{FileFault}
 use Rattle.file.specs.declared.faults.FileFault.TheVariants.{TooLong, Form, TermsLength}
@@ -153,11 +154,11 @@ some_bidder (line l ls) sec n s t h e =
 said_some : (file : Bytes) (s : Sale) → sale_in file ≡ Ok s → 1 ≤ length s.register
 unfolding gathered
 said_some file s =
-    cond_both (ltb 32768 (length file)) (broken TooLong) (items LotNames 1 (lines file)) (λ is. gathered nothing is ≡ Ok s → 1 ≤ length s.register)
+    cond_both (ltb most_bytes (length file)) (broken TooLong) (items LotNames 1 (lines file)) (λ is. gathered nothing is ≡ Ok s → 1 ≤ length s.register)
     (λ p e. absurd (let z : ◌≡◌ {A = ℕ} 0 1 = cc in omega arith)) (λ p e. some_bidder (lines file) LotNames 1 nothing s tt e)
 
 said_well_formed : (file : Bytes) → AllWellFormed (said_in file)
-said_well_formed file = cond_both (ltb 32768 (length file)) (broken TooLong) (items LotNames 1 (lines file)) AllWellFormed (λ e. tt) (λ e. items_well_formed LotNames 1 (lines file))
+said_well_formed file = cond_both (ltb most_bytes (length file)) (broken TooLong) (items LotNames 1 (lines file)) AllWellFormed (λ e. tt) (λ e. items_well_formed LotNames 1 (lines file))
 
 -- the sale of a file that is accepted
 pub accepted_keeps_limits : AcceptedFilesKeepLimits

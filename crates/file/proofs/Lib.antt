@@ -1,8 +1,11 @@
+pub mod Alike
 pub mod Cuts
+pub mod Filled
 pub mod Lawful
 pub mod Pages
 pub mod Pairs
 pub mod Registers
+pub mod Reports
 pub mod Sound
 pub mod Takes
 pub mod Through

@@ -9,7 +9,7 @@ use Rattle.std.proofs.lemmas.List.{append_assoc}
 use Rattle.engine.specs.declared.variants.Variant.{Variant}
 use Rattle.room.specs.Rooms.{contents}
 use Rattle.room.specs.Calls.{Lodging, answer_to, room_after}
-use Rattle.room.specs.Runs.{Meeting, met, Runs, none, more, calls_of}
+use Rattle.room.specs.Runs.{Meeting, met, none, more, calls_of}
 use Rattle.room.specs.Sales.{Bytes}
 use Rattle.file.specs.Contents.{Sent, envelopes_in}
 use Rattle.file.specs.Form.{Item, Items, item}

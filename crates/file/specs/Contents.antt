@@ -6,6 +6,7 @@ use Rattle.list.specs.Insertion.{has_equal, list_with}
 use Rattle.list.specs.Order.{by_key}
 use Rattle.list.specs.declared.faults.ListFault.{ListFault}
 use Rattle.list.specs.declared.faults.ListFault.TheVariants.{EqualEntry, Full}
+use Rattle.file.specs.Input.{most_bytes}
 use Rattle.file.specs.Lines.{lines}
 use Rattle.file.specs.Hexadecimal.{written_bytes}
 use Rattle.file.specs.Form.{Items, end, broken, item, lot_item, bidder_item, envelope_item, items}
@@ -60,9 +61,9 @@ envelopes_in (item (lot_item lot variant terms) is) = envelopes_in is
 envelopes_in (item (bidder_item n bidder key) is) = envelopes_in is
 envelopes_in (item (envelope_item n digits) is) = record { at = n; envelope = written_bytes digits } ∷ envelopes_in is
 
--- What a file says, from its first line on: one above 32,768 bytes is refused at once.
+-- What a file says, from its first line on: one that has too many bytes is refused at once.
 abbrev pub said_in : Bytes → Items
-said_in file = cond (nat_lt 32768 (length file)) (broken TooLong) (items LotNames 1 (lines file))
+said_in file = cond (nat_lt most_bytes (length file)) (broken TooLong) (items LotNames 1 (lines file))
 
 -- Before the first line nothing is known: no bidders, and the other fields are set by the line of the lot, which comes first.
 abbrev pub nothing : Sale

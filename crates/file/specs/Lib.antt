@@ -5,11 +5,14 @@ pub mod Fields
 pub mod Form
 pub mod Hexadecimal
 pub mod Holding
+pub mod Input
 pub mod Lines
 pub mod Numbers
 pub mod Read
 pub mod Report
 pub mod Said
+pub mod Selling
 pub mod Stepping
 pub mod Stepwise
+pub mod Streams
 pub mod Theorems

@@ -59,3 +59,11 @@ refusal_by (Err f) = Some f
 
 abbrev pub refusal_of : Bytes → Option FileFault
 refusal_of file = refusal_by (contents_in file)
+
+-- The exit status that goes with a report: 0 where the file is accepted, 1 where it is refused.
+abbrev pub status_by : Option FileFault → ℕ
+status_by None = 0
+status_by (Some f) = 1
+
+abbrev pub status_of : Bytes → ℕ
+status_of file = status_by (refusal_of file)

@@ -8,7 +8,7 @@ ghost use Rattle.file.specs.Hexadecimal.{written_bytes};
 use crate::faults::FileFault;
 use crate::gathering::Gathering;
 use crate::hexadecimal::decode;
-use cipher::KEY_BYTES;
+use cipher::{KEY_BYTES, check_key};
 use list::Ordered;
 use room::RegisterEntry;
 
@@ -23,7 +23,7 @@ fn key_of(digits: &[u8]) -> [u8; KEY_BYTES]
 }
 
 impl Gathering<'_, '_> {
-    // Enrolls the bidder of a line.
+    // Enrolls the bidder of a line. The cipher is asked of the key and never refuses it, since it was tested where its line was read.
     pub(crate) fn enroll(&mut self, line: u32, bidder: u32, key: &[u8]) -> Result<(), FileFault>
         requires { is_key key.now ≡ true }
         ensures answer { result ≡ enrolling_answer line (enrolled (record { bidder = bidder; key = written_bytes key.now }) (sale_so_far self.old).register) }
@@ -32,6 +32,7 @@ impl Gathering<'_, '_> {
         ensures same_places { self.new.places.ghost_name ≡ self.old.places.ghost_name }
     {
         let key = key_of(key);
+        check_key(&key)?;
         let count = self.sale.count;
         let places = &mut *self.places;
         let mut list = Ordered { places, count };

@@ -1,30 +1,33 @@
 // Why a sale file is refused.
 ghost use Rattle.std.specs.Prelude.{◌≡◌};
 ghost use Rattle.file.specs.Faults.{fault_number, fault_layer, line_of, fault_place};
-ghost use Rattle.file.specs.declared.faults.FileFault.TheVariants.{Room as by_room};
+ghost use Rattle.file.specs.declared.faults.FileFault.TheVariants.{Cipher as by_cipher, Room as by_room};
 
+use cipher::CipherFault;
 use fault::{Fault, Layer, Place};
 use list::ListFault;
 use room::RoomFault;
 
-// Each fault but the first and the last lies in a line, counted from 1.
+/// Why a sale file is refused. Lines are counted from 1.
 #[derive(Clone, Copy, PartialEq, Eq, Debug)]
 pub enum FileFault {
-    // The file has more than 32,768 bytes.
+    /// The file has more than 32,768 bytes.
     TooLong,
-    // The line breaks the form, is missing, or is not ended by byte 10.
+    /// The line breaks the form, is missing, or is not ended by byte 10.
     Form { line: u32 },
-    // The terms have more than 64 bytes.
+    /// The terms have more than 64 bytes.
     TermsLength { line: u32 },
-    // The list of bidders refuses the line's bidder.
+    /// The list of bidders refuses the line's bidder.
     List { line: u32, cause: ListFault },
-    // The room refuses the sale. It never does, since an accepted file keeps the limits of a room.
+    /// The cipher refuses a bidder's key. It never does, since a key in the form of a file has 16 bytes.
+    Cipher(CipherFault),
+    /// The room refuses the sale. It never does, since an accepted file keeps the limits of a room.
     Room(RoomFault),
 }
 
 impl FileFault {
-    // The line that is refused. By the rules of refusals it is 0, and no `Option`, for a file that is too long; and so it is for one that the
-    // room refuses.
+    /// The line that is refused. By the rules of refusals it is 0, and no `Option`, for a file that is too long; and so it is where the cipher or
+    /// the room refuses.
     pub fn line(self) -> u32
         ensures { result ≡ line_of self }
     {
@@ -33,6 +36,7 @@ impl FileFault {
             FileFault::Form { line } => line,
             FileFault::TermsLength { line } => line,
             FileFault::List { line, cause: _ } => line,
+            FileFault::Cipher(_) => 0,
             FileFault::Room(_) => 0,
         }
     }
@@ -51,10 +55,12 @@ impl Fault for FileFault {
             FileFault::Form { line: _ } => 22,
             FileFault::TermsLength { line: _ } => 15,
             FileFault::List { line: _, cause } => cause.number(),
+            FileFault::Cipher(cause) => cause.number(),
             FileFault::Room(cause) => cause.number(),
         }
     }
 
+    // The layer whose fault this is. The fault that is held inside tells where it started.
     fn layer(self) -> Layer {
         Layer::File
     }
@@ -65,6 +71,14 @@ impl Fault for FileFault {
 }
 
 // By a rule of the project each layer above has such a `From`, for `?` to pass a fault of the layer below up, held whole.
+impl From<CipherFault> for FileFault {
+    ghost from_gives = { λ f r. r ≡ by_cipher f };
+
+    fn from(f: CipherFault) -> FileFault {
+        FileFault::Cipher(f)
+    }
+}
+
 impl From<RoomFault> for FileFault {
     ghost from_gives = { λ f r. r ≡ by_room f };
 

@@ -4,8 +4,8 @@ ghost use Rattle.std.specs.Prelude.{◌≡◌, ◌≤◌, length};
 use engine::Variant;
 use room::RegisterEntry;
 
-// The lot of a file, its variant and its terms, and how many bidders its register has.
-// The count stands alone, since the register comes into places that the caller lends: the first `count` of them are it.
+/// The lot of a file, its variant and its terms, and how many bidders its register has.
+/// The count stands alone, since the register comes into places that the caller lends: the first `count` of them are it.
 #[derive(Clone, Copy)]
 pub struct Gathered<'a> {
     pub lot: u32,

@@ -1,19 +1,22 @@
 // The lines of a sale file: what they say, and which of them comes next.
 use engine::Variant;
 
-// What a line says. Terms and hexadecimal digits are borrowed from the bytes read.
+/// What a line says. Terms and hexadecimal digits are borrowed from the bytes read, and `line` is the number of the line, counted from 1.
 #[derive(Clone, Copy)]
 pub enum Line<'a> {
+    /// The lot on sale, the variant that seals its letters, and its terms.
     Lot {
         lot: u32,
         variant: Variant,
         terms: &'a [u8],
     },
+    /// A bidder, and the digits of its key.
     Bidder {
         line: u32,
         bidder: u32,
         key: &'a [u8],
     },
+    /// The digits of an envelope.
     Envelope {
         line: u32,
         digits: &'a [u8],

@@ -11,19 +11,19 @@ use crate::judging::judge;
 use crate::line::{Line, Section};
 use crate::reader::Reader;
 
-// The most bytes that a file may have.
-const FILE_LIMIT: usize = 32768;
+/// The most bytes that a sale file may have.
+pub const MOST_FILE_BYTES: usize = 32_768;
 
 // What ends a line.
 const LINE_END: u8 = 10;
 
 impl<'a> Reader<'a> {
-    // A reader over the bytes of a file.
+    /// A reader over the bytes of a file. One that has too many is refused at the first reading.
     #[tactic(auto, unfolding(crate::specs::Read::left_of))]
     pub fn new(text: &'a [u8]) -> Reader<'a>
         ensures { left_of result ≡ said_in text.now }
     {
-        if text.len() > FILE_LIMIT {
+        if text.len() > MOST_FILE_BYTES {
             return Reader {
                 rest: &[],
                 line: 1,

@@ -56,7 +56,10 @@ impl<'a> Gathering<'a, '_> {
     }
 }
 
-// Gathers what a file says: the register comes into the first of the places.
+/// Gathers what a file says: the register comes into the first of the places, by rising bidder.
+///
+/// # Errors
+/// The fault of the first line that breaks a rule. The bidders enrolled before it stay in their places.
 pub fn gather<'a>(
     text: &'a [u8],
     places: &mut [RegisterEntry; MOST_BIDDERS],

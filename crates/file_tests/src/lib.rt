@@ -4,6 +4,8 @@
 #[cfg(test)]
 mod checking;
 #[cfg(test)]
+mod halting;
+#[cfg(test)]
 mod making;
 #[cfg(test)]
 mod tests;

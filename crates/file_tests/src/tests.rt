@@ -1,9 +1,12 @@
 // Small files, each with what is printed of it.
 use crate::checking::{NOBODY, accepts, is_accepted, is_refused, refuses};
+use crate::halting::Halting;
 use crate::making::{bidders_then, terms_of};
+use cipher::CipherFault;
 use engine::Variant;
 use fault::{Fault, Layer, Place};
-use file::{FileFault, Line, Reader, gather};
+use file::{FileFault, Line, Reader, gather, hold_sale};
+use std::io;
 use std::test::Fail;
 
 #[test]
@@ -259,6 +262,35 @@ fn a_fault_tells_number_layer_and_line(rt: HostRuntime) {
     assert_eq!(rt; f.place(), Place::Line(2));
     assert_eq!(rt; FileFault::TooLong.number(), 23);
     assert_eq!(rt; FileFault::TooLong.place(), Place::Line(0));
+    let held = FileFault::from(CipherFault::KeyLength);
+    assert_eq!(rt; held.number(), 1);
+    assert_eq!(rt; held.layer(), Layer::File);
+    assert_eq!(rt; held.place(), Place::Line(0));
+}
+
+// Of a file that has no end 32,769 bytes are read.
+#[test]
+fn an_endless_file_is_too_long(rt: HostRuntime) -> Result<(), Fail> {
+    let mut printed = Vec::new(rt.alloc());
+    let status = hold_sale(rt.alloc(), io::repeat(b'x'), &mut printed)?;
+    assert_eq!(rt; status, 1);
+    assert_eq!(rt; printed.as_slice(), "refusal,line\n23,0\n".as_bytes());
+    Ok(())
+}
+
+#[test]
+fn a_sale_is_held_where_reading_is_interrupted(rt: HostRuntime) -> Result<(), Fail> {
+    let file =
+        "lot,variant,terms\n17,dumbo,bows\n\nbidder,key\n3,000102030405060708090a0b0c0d0e0f\n\nenvelope\n00\n";
+    let reader = Halting::new(file.as_bytes());
+    let mut printed = Vec::new(rt.alloc());
+    let status = hold_sale(rt.alloc(), reader, &mut printed)?;
+    assert_eq!(rt; status, 0);
+    assert_eq!(rt;
+        printed.as_slice(),
+        "line,answer\n8,8\n\nlot,bidder,amount\n".as_bytes()
+    );
+    Ok(())
 }
 
 // In a line the form goes before the limit of the terms, and a line before those behind it.

@@ -121,7 +121,8 @@ room_after r (Asking b) = r
 room_after r Closing = left (answer_to r Closing) (closed r) r
 room_after r (Opening o) = r
 
--- All that a place is made of, used parts and unused. (That its counts are within its arrays and that its slots rise follows for every place.)
+-- All that a place is made of, used parts and unused. (That its counts are within its arrays and its slots rise are facts of every place, and no
+-- parts.)
 pub record PlainFields : Type 0 where
   pub phase : Phase
   pub lot : ℕ

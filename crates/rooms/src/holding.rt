@@ -1,14 +1,18 @@
 // The calls of a sale, and what they answer.
 use crate::bidding::{bid, key_of, unlawful};
 use crate::opening::{open_with_nothing, open_with_others, print_page};
-use crate::telling::{done, tell, tell_refusal};
+use crate::telling::{Cents, tell_asked, tell_done, tell_lodged};
 use engine::Engine;
 use envelope::{HeadFields, Pen, envelope_bytes};
+use refusals::Refusal;
 use room::{RegisterEntry, Room, RoomState};
 
 const LOT: u32 = 17;
 
 const TERMS: &[u8] = b"bows";
+
+// The lot of the room that is made again.
+const NEXT_LOT: u32 = 18;
 
 fn entry(bidder: u32) -> RegisterEntry {
     RegisterEntry {
@@ -26,49 +30,67 @@ fn lodge_bid<E: Engine + Copy>(
     amount: u64,
 ) -> anyhow::Result<()> {
     let mut place = vec![in rt.alloc(); 0u8; envelope_bytes(room.engine.variant())]?;
+    let call = format_args!("bidder {bidder} bids {}", Cents(amount));
     match bid(&room.engine, pen, bidder, amount, b"", &mut place) {
-        Ok(()) => tell(rt, "lodging", room.lodge(&place)),
-        Err(fault) => tell_refusal(rt, "sealing", fault),
+        Ok(()) => tell_lodged(rt, call, room.lodge(&place))?,
+        Err(fault) => println!(rt; "{call}: {}", Refusal(fault))?,
     }
+    Ok(())
 }
 
-// Lodgings of every kind, then the closing and two openings. Bidder 9 withdraws, and bidder 4 has an unlawful letter.
+// Lodgings of every kind, then the closing and openings. Bidder 9 withdraws, and bidder 4 has an unlawful letter.
 pub fn hold_sale<E: Engine + Copy>(
     rt: &HostRuntime,
     place: &mut RoomState,
     engine: E,
 ) -> anyhow::Result<()> {
+    println!(rt;
+        "\nA sale of lot {LOT} above the {} engine",
+        engine.variant()
+    )?;
     let register = [entry(3), entry(4), entry(5), entry(8), entry(9)];
     let mut room = Room {
         inner: place,
         engine,
     };
-    tell(rt, "closing a fresh place", done(room.close()))?;
-    tell(rt, "making", done(room.make(LOT, TERMS, &register)))?;
+    tell_done(rt, "closing before any room is made", room.close())?;
+    let made = room.make(LOT, TERMS, &register);
+    tell_done(rt, "making a room for bidders 3, 4, 5, 8 and 9", made)?;
     let Ok(mut pen) = Pen::new(LOT, TERMS) else {
         return Ok(());
     };
-    lodge_bid(rt, &mut room, &mut pen, 8, 310_000)?;
-    lodge_bid(rt, &mut room, &mut pen, 3, 200_000)?;
-    lodge_bid(rt, &mut room, &mut pen, 3, 250_000)?;
-    lodge_bid(rt, &mut room, &mut pen, 5, 250_000)?;
-    lodge_bid(rt, &mut room, &mut pen, 9, 90_000)?;
-    lodge_bid(rt, &mut room, &mut pen, 9, 0)?;
-    lodge_bid(rt, &mut room, &mut pen, 7, 1)?;
-    lodge_refused(rt, &mut room)?;
+    lodge_bids(rt, &mut room, &mut pen)?;
+    lodge_without_pen(rt, &mut room)?;
+    ask_bidders(rt, &mut room)?;
     print_page(rt, &room)?;
     open_with_nothing(rt, &room)?;
-    tell(rt, "closing", done(room.close()))?;
-    lodge_bid(rt, &mut room, &mut pen, 8, 999_999)?;
-    tell(rt, "lodging no bytes", room.lodge(b""))?;
-    tell(rt, "asking for bidder 5", room.ask(5))?;
-    open_with_others(rt, &room)?;
-    print_page(rt, &room)?;
-    print_page(rt, &room)
+    close_and_open(rt, &mut room, &mut pen)
 }
 
-// An unlawful letter with a right tag, the same again, a changed tag, another lot, and a short envelope.
-fn lodge_refused<E: Engine + Copy>(rt: &HostRuntime, room: &mut Room<E>) -> anyhow::Result<()> {
+// Bids that the pen seals. Bidder 3 bids twice, bidder 9 takes a bid back by an amount of 0, and bidder 7 is not in the register.
+fn lodge_bids<E: Engine + Copy>(
+    rt: &HostRuntime,
+    room: &mut Room<E>,
+    pen: &mut Pen,
+) -> anyhow::Result<()> {
+    let bids = [
+        (8, 310_000),
+        (3, 200_000),
+        (3, 250_000),
+        (5, 250_000),
+        (9, 90_000),
+        (9, 0),
+        (7, 1),
+    ];
+    for (bidder, amount) in bids {
+        lodge_bid(rt, room, pen, bidder, amount)?;
+    }
+    Ok(())
+}
+
+// Envelopes that no pen made: an unlawful letter with a right tag, the same again, a changed tag, another lot, and a short envelope.
+fn lodge_without_pen<E: Engine + Copy>(rt: &HostRuntime, room: &mut Room<E>) -> anyhow::Result<()> {
+    println!(rt; "Envelopes of bidder 4 with a letter that states no bid, sealed without a pen")?;
     let alloc = rt.alloc();
     let head = HeadFields {
         lot: LOT,
@@ -76,8 +98,8 @@ fn lodge_refused<E: Engine + Copy>(rt: &HostRuntime, room: &mut Room<E>) -> anyh
         sequence: 20,
     };
     let first = unlawful(alloc, &room.engine, head, TERMS)?;
-    tell(rt, "lodging an unlawful letter", room.lodge(&first))?;
-    tell(rt, "lodging it again", room.lodge(&first))?;
+    tell_lodged(rt, "sequence 20", room.lodge(&first))?;
+    tell_lodged(rt, "the same envelope again", room.lodge(&first))?;
     let next = HeadFields {
         sequence: 21,
         ..head
@@ -86,34 +108,63 @@ fn lodge_refused<E: Engine + Copy>(rt: &HostRuntime, room: &mut Room<E>) -> anyh
     if let Some(last) = changed.last_mut() {
         *last ^= 1;
     }
-    tell(rt, "lodging with a wrong tag", room.lodge(&changed))?;
+    tell_lodged(
+        rt,
+        "sequence 21, a bit of the tag changed",
+        room.lodge(&changed),
+    )?;
     let elsewhere = HeadFields {
-        lot: LOT + 1,
+        lot: NEXT_LOT,
         sequence: 22,
         ..head
     };
     let mut other = unlawful(alloc, &room.engine, elsewhere, TERMS)?;
-    tell(rt, "lodging for another lot", room.lodge(&other))?;
+    tell_lodged(rt, "sequence 22 of lot 18", room.lodge(&other))?;
     let _last = other.pop();
-    tell(rt, "lodging a short envelope", room.lodge(&other))?;
-    tell(rt, "asking for bidder 4", room.ask(4))?;
-    tell(rt, "asking for bidder 5", room.ask(5))?;
-    tell(rt, "asking for bidder 6", room.ask(6))
+    tell_lodged(rt, "the same without its last byte", room.lodge(&other))?;
+    Ok(())
+}
+
+// What is last accepted of bidders; 6 is not in the register.
+fn ask_bidders<E: Engine + Copy>(rt: &HostRuntime, room: &mut Room<E>) -> anyhow::Result<()> {
+    for bidder in [4, 5, 6] {
+        tell_asked(rt, bidder, room.ask(bidder))?;
+    }
+    Ok(())
+}
+
+// The closing, what is called for after it, and the page twice.
+fn close_and_open<E: Engine + Copy>(
+    rt: &HostRuntime,
+    room: &mut Room<E>,
+    pen: &mut Pen,
+) -> anyhow::Result<()> {
+    tell_done(rt, "closing", room.close())?;
+    lodge_bid(rt, room, pen, 8, 999_999)?;
+    tell_lodged(rt, "lodging no bytes", room.lodge(b""))?;
+    tell_asked(rt, 5, room.ask(5))?;
+    open_with_others(rt, room)?;
+    print_page(rt, room)?;
+    print_page(rt, room)
 }
 
 // Makings that are refused, for a register, for terms, and for both: the room of before is still there.
 fn make_refused<E: Engine + Copy>(rt: &HostRuntime, room: &mut Room<E>) -> anyhow::Result<()> {
-    let none = room.make(18, b"", &[]);
-    tell(rt, "making without a register", done(none))?;
-    let equal = room.make(18, b"", &[entry(3), entry(3)]);
-    tell(rt, "making with equal bidders", done(equal))?;
-    let falling = room.make(18, b"", &[entry(5), entry(3)]);
-    tell(rt, "making with falling bidders", done(falling))?;
-    let long = room.make(18, &[0; 65], &[entry(2)]);
-    tell(rt, "making with 65 bytes of terms", done(long))?;
-    let both = room.make(18, &[0; 65], &[]);
-    tell(rt, "making with both", done(both))?;
-    tell(rt, "asking for bidder 4", room.ask(4))
+    let none = room.make(NEXT_LOT, b"", &[]);
+    tell_done(rt, "making a room for no bidder", none)?;
+    let equal = room.make(NEXT_LOT, b"", &[entry(3), entry(3)]);
+    tell_done(rt, "making a room for bidders 3 and 3", equal)?;
+    let falling = room.make(NEXT_LOT, b"", &[entry(5), entry(3)]);
+    tell_done(rt, "making a room for bidders 5 and 3", falling)?;
+    let long = room.make(NEXT_LOT, &[0; 65], &[entry(2)]);
+    tell_done(rt, "making a room with 65 bytes of terms", long)?;
+    let both = room.make(NEXT_LOT, &[0; 65], &[]);
+    tell_done(
+        rt,
+        "making a room with 65 bytes of terms, for no bidder",
+        both,
+    )?;
+    tell_asked(rt, 4, room.ask(4))
 }
 
 // A room made anew over an old one: nothing of it is left.
@@ -122,19 +173,23 @@ pub fn hold_again<E: Engine + Copy>(
     place: &mut RoomState,
     engine: E,
 ) -> anyhow::Result<()> {
+    println!(rt;
+        "\nA sale of lot {NEXT_LOT} above the {} engine, in the place of the last room",
+        engine.variant()
+    )?;
     let mut room = Room {
         inner: place,
         engine,
     };
     make_refused(rt, &mut room)?;
-    let made = room.make(18, b"", &[entry(2), entry(3)]);
-    tell(rt, "making again", done(made))?;
-    tell(rt, "asking for bidder 3", room.ask(3))?;
-    let Ok(mut pen) = Pen::new(18, b"") else {
+    let made = room.make(NEXT_LOT, b"", &[entry(2), entry(3)]);
+    tell_done(rt, "making a room for bidders 2 and 3", made)?;
+    tell_asked(rt, 3, room.ask(3))?;
+    let Ok(mut pen) = Pen::new(NEXT_LOT, b"") else {
         return Ok(());
     };
     lodge_bid(rt, &mut room, &mut pen, 2, 999_999_999_999)?;
-    tell(rt, "closing", done(room.close()))?;
-    tell(rt, "closing again", done(room.close()))?;
+    tell_done(rt, "closing", room.close())?;
+    tell_done(rt, "closing again", room.close())?;
     print_page(rt, &room)
 }

@@ -1,5 +1,5 @@
 // Openings, with as much lent to them as they need or less.
-use crate::telling::tell_refusal;
+use crate::telling::{Answer, tell};
 use engine::Engine;
 use envelope::LETTER_BYTES;
 use room::{MOST_BIDDERS, MOST_PAGE_BYTES, Room, SheetEntry};
@@ -35,8 +35,11 @@ fn open<E: Engine + Copy>(
     let mut page = vec![in rt.alloc(); 0u8; lent.page]?;
     let mut work = vec![in rt.alloc(); 0u8; lent.work]?;
     match room.open(&mut sheet, &mut page, &mut work) {
-        Ok(n) => io::writer(rt).write_all(&page[..n])?,
-        Err(fault) => tell_refusal(rt, call, fault)?,
+        Ok(n) => {
+            println!(rt; "{call}: this page, with amounts in cents")?;
+            io::writer(rt).write_all(&page[..n])?;
+        }
+        Err(fault) => tell(rt, call, Err(fault))?,
     }
     Ok(())
 }
@@ -47,10 +50,7 @@ pub fn print_page<E: Engine + Copy>(rt: &HostRuntime, room: &Room<E>) -> anyhow:
 }
 
 // Opens a room with nothing lent: what is refused first shows.
-pub fn open_with_nothing<E: Engine + Copy>(
-    rt: &HostRuntime,
-    room: &Room<E>,
-) -> anyhow::Result<()> {
+pub fn open_with_nothing<E: Engine + Copy>(rt: &HostRuntime, room: &Room<E>) -> anyhow::Result<()> {
     let nothing = Sizes {
         sheet: 0,
         page: 0,
@@ -60,10 +60,7 @@ pub fn open_with_nothing<E: Engine + Copy>(
 }
 
 // Opens a room with one place or byte too few of each kind, and with one byte too many to work in.
-pub fn open_with_others<E: Engine + Copy>(
-    rt: &HostRuntime,
-    room: &Room<E>,
-) -> anyhow::Result<()> {
+pub fn open_with_others<E: Engine + Copy>(rt: &HostRuntime, room: &Room<E>) -> anyhow::Result<()> {
     let sheet = Sizes {
         sheet: 63,
         ..ENOUGH

@@ -2,62 +2,46 @@
 // printed, and with 2 and a message on standard error where memory does not suffice or reading or writing fails.
 #![tactic(auto)]
 
-ghost use Rattle.std.specs.Prelude.{◌≡◌, is_some, if◌then◌else◌};
 ghost use Rattle.std.specs.Process.{exit_status};
+ghost use Rattle.sale.specs.Running.{Ends};
 
-use anyhow::Context;
-use file::{FileFault, accepted_files_keep_limits, page_laws_stand, report_on};
+use file::{accepted_files_keep_limits, hold_sale, page_laws_stand};
 use room::promise_stands;
+use std::alloc::Global;
 use std::io;
 use std::io::{Read, Write};
 use std::process::ExitCode;
 
-// One byte more than a sale file may have: a longer file is refused alike, whatever follows.
-const MOST_BYTES_READ: u64 = 32_769;
-
 // The status of a run that did not get its report printed.
-const NOTHING_PRINTED: u8 = 2;
+const NOT_PRINTED: u8 = 2;
 
-// Standard input, as far as it can matter.
-fn read_input(rt: &HostRuntime) -> anyhow::Result<Vec<u8>> {
-    let mut text = Vec::new(rt.alloc());
-    let mut input = rt.reader().take(MOST_BYTES_READ);
-    input
-        .read_to_end(&mut text)
-        .context("standard input cannot be read")?;
-    Ok(text)
-}
-
-fn write_output(rt: &HostRuntime, bytes: &[u8]) -> anyhow::Result<()> {
-    io::writer(rt)
-        .write_all(bytes)
-        .context("standard output cannot be written")
-}
-
-// The status once a report is printed.
-fn status_of(refusal: Option<FileFault>) -> ExitCode
-    ensures { exit_status result ≡ (if is_some refusal then 1 else 0) }
+// Prints the report of the input to the output, or why it does not to the messages.
+fn run<R: Read + Drop, W: Write, M: Write>(
+    heap: Global,
+    input: R,
+    output: &mut W,
+    messages: &mut M,
+) -> ExitCode
+    ensures { Ends (R.remaining input) (W.contents output.old) (W.contents output.new) (exit_status result) }
 {
-    ExitCode::from(u8::from(refusal.is_some()))
-}
-
-fn run(rt: &HostRuntime) -> anyhow::Result<ExitCode> {
-    promise_stands();
-    accepted_files_keep_limits();
-    page_laws_stand();
-    let text = read_input(rt)?;
-    let report = report_on(rt.alloc(), &text)?;
-    write_output(rt, &report.bytes)?;
-    Ok(status_of(report.refusal))
+    match hold_sale(heap, input, output) {
+        Ok(status) => ExitCode::from(status),
+        Err(e) => {
+            // Where this cannot be written either, the status still tells.
+            let _ = writeln!(messages, "sale: {e}");
+            ExitCode::from(NOT_PRINTED)
+        }
+    }
 }
 
 fn main(rt: HostRuntime) -> ExitCode {
-    match run(&rt) {
-        Ok(status) => status,
-        Err(e) => {
-            // Where this cannot be written either, the status still tells.
-            let _ = eprintln!(rt; "sale: {e:?}");
-            ExitCode::from(NOTHING_PRINTED)
-        }
-    }
+    promise_stands();
+    accepted_files_keep_limits();
+    page_laws_stand();
+    run(
+        rt.alloc(),
+        rt.reader(),
+        &mut io::writer(&rt),
+        &mut rt.stderr(),
+    )
 }

@@ -1,0 +1,4 @@
+mod Sponge
+mod Layouts
+mod Samples
+mod Groups

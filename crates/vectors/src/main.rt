@@ -3,7 +3,8 @@
 // file, and a second has only one engine run.
 #![tactic(auto)]
 
-ghost use Rattle.std.specs.Prelude.{◌≡◌, ℕ, ◌<◌};
+ghost use Rattle.std.specs.Prelude.{◌≡◌, ◌↔◌, ℕ, ◌<◌, IsTrue, if◌then◌else◌};
+ghost use Rattle.std.specs.Process.{exit_status};
 
 mod asked;
 mod published;
@@ -11,17 +12,18 @@ mod records;
 mod tallies;
 mod trials;
 
-use asked::{Asked, EngineName};
+use arguments::{ended, read};
+use asked::{Asked, EngineName, command};
 use cipher::cipher_laws_stand;
 use circuit::Circuit;
 use engine::{Engine, Plain, Variant, permutation_laws_stand};
 use interleaved::Interleaved;
 use published::{try_keccak, try_spongent};
 use records::{Answers, read_answers};
-use std::alloc::Global;
-use std::fs;
+use std::process::ExitCode;
+use std::{env, fs};
 use tallies::Tally;
-use trials::agrees;
+use trials::try_records;
 
 // What is published of the permutations.
 const KECCAK: &str = "published values of Keccak-f[200]";
@@ -65,51 +67,32 @@ fn interleaved() -> Named<Interleaved> {
     }
 }
 
-// Runs published values through an engine of their permutation, by a trial that counts those met.
-fn run_values<E: Engine, F: FnOnce(Global, &E) -> Tally>(
+// Runs published values through an engine of their permutation, by a trial that counts those met; and whether all were.
+fn run_values<E: Engine, F: FnOnce(&E) -> Tally>(
     rt: &HostRuntime,
     asked: &Asked,
     values: &str,
     named: &Named<E>,
     trial: F,
-) -> anyhow::Result<()>
+) -> anyhow::Result<bool>
     requires { F.IsAlwaysCallable trial }
 {
     let name = named.name;
     if asked.wants(name) {
-        let tally = trial(rt.alloc(), &named.engine);
+        let tally = trial(&named.engine);
         println!(rt; "{values}, {name} engine: {tally}")?;
+        return Ok(is_full(&tally));
     }
-    Ok(())
+    Ok(true)
 }
 
 // Runs the published values through each engine that has their permutation.
-fn run_published(rt: &HostRuntime, asked: &Asked) -> anyhow::Result<()> {
-    run_values(rt, asked, KECCAK, &plain(Variant::Delirium), try_keccak)?;
-    run_values(rt, asked, KECCAK, &interleaved(), try_keccak)?;
-    run_values(rt, asked, SPONGENT, &plain(Variant::Jumbo), try_spongent)?;
-    run_values(rt, asked, SPONGENT, &circuit(Circuit::Jumbo), try_spongent)
-}
-
-// Tries records by an engine, all or every so many, and tells each that does not agree.
-fn try_records<E: Engine>(
-    rt: &HostRuntime,
-    asked: &Asked,
-    named: &Named<E>,
-    answers: &Answers,
-) -> anyhow::Result<Tally> {
-    let name = named.name;
-    let variant = named.engine.variant();
-    let mut tally = Tally::new();
-    for record in answers.records.iter().step_by(asked.step(name)) {
-        let agreed = agrees(rt.alloc(), &named.engine, record)?;
-        tally.count(agreed);
-        if !agreed {
-            let number = record.number;
-            eprintln!(rt; "{variant}, {name} engine: record {number} does not agree")?;
-        }
-    }
-    Ok(tally)
+fn run_published(rt: &HostRuntime, asked: &Asked) -> anyhow::Result<bool> {
+    let first = run_values(rt, asked, KECCAK, &plain(Variant::Delirium), try_keccak)?;
+    let second = run_values(rt, asked, KECCAK, &interleaved(), try_keccak)?;
+    let third = run_values(rt, asked, SPONGENT, &plain(Variant::Jumbo), try_spongent)?;
+    let fourth = run_values(rt, asked, SPONGENT, &circuit(Circuit::Jumbo), try_spongent)?;
+    Ok(first && second && third && fourth)
 }
 
 // Runs the records through an engine of their variant. It stands beside `run_values`, since a trial of records may fail, and is told by the variant.
@@ -118,42 +101,74 @@ fn run_engine<E: Engine>(
     asked: &Asked,
     named: &Named<E>,
     answers: &Answers,
-) -> anyhow::Result<()> {
+) -> anyhow::Result<bool> {
     let name = named.name;
     if asked.wants(name) {
         let variant = named.engine.variant();
-        let tally = try_records(rt, asked, named, answers)?;
+        let trials = try_records(
+            rt.alloc(),
+            &named.engine,
+            asked.step(name),
+            &answers.records,
+        )?;
+        for number in &trials.disagreeing {
+            eprintln!(rt; "{variant}, {name} engine: record {number} does not agree")?;
+        }
+        let tally = trials.tally;
         println!(rt; "{variant}, {name} engine: {tally}")?;
+        return Ok(is_full(&tally));
     }
-    Ok(())
+    Ok(true)
 }
 
-// Reads the records of a variant and runs them through each of its engines.
-fn run_variant(rt: &HostRuntime, asked: &Asked, variant: Variant) -> anyhow::Result<()> {
+// Reads the records of a variant and runs them through each of its engines; and whether all were read and agreed.
+fn run_variant(rt: &HostRuntime, asked: &Asked, variant: Variant) -> anyhow::Result<bool> {
     let text = fs::read_to_string(rt, file_of(variant))?;
     let answers = read_answers(rt.alloc(), variant, text.as_str())?;
     let read = answers.records.len();
-    let unreadable = answers.unreadable;
+    let unreadable = answers.faults.len();
     println!(rt; "{variant}: {read} records read, {unreadable} could not be read")?;
-    run_engine(rt, asked, &plain(variant), &answers)?;
-    match variant {
-        Variant::Dumbo => run_engine(rt, asked, &circuit(Circuit::Dumbo), &answers),
-        Variant::Jumbo => run_engine(rt, asked, &circuit(Circuit::Jumbo), &answers),
-        Variant::Delirium => run_engine(rt, asked, &interleaved(), &answers),
-    }
+    let slow = run_engine(rt, asked, &plain(variant), &answers)?;
+    let fast = match variant {
+        Variant::Dumbo => run_engine(rt, asked, &circuit(Circuit::Dumbo), &answers)?,
+        Variant::Jumbo => run_engine(rt, asked, &circuit(Circuit::Jumbo), &answers)?,
+        Variant::Delirium => run_engine(rt, asked, &interleaved(), &answers)?,
+    };
+    Ok(unreadable == 0 && slow && fast)
 }
 
-fn run(rt: &HostRuntime) -> anyhow::Result<()> {
+fn run_asked(rt: &HostRuntime, asked: &Asked) -> anyhow::Result<ExitCode> {
+    let mut agreed = run_published(rt, asked)?;
+    for variant in [Variant::Dumbo, Variant::Jumbo, Variant::Delirium] {
+        agreed &= run_variant(rt, asked, variant)?;
+    }
+    Ok(exit_code(agreed))
+}
+
+// Whether all trials agreed.
+fn is_full(tally: &Tally) -> bool
+    ensures { IsTrue result ↔ (tally.now.agreed ≡ tally.now.tried) }
+{
+    tally.agreed == tally.tried
+}
+
+// The status that the program ends with, once all is compared.
+fn exit_code(agreed: bool) -> ExitCode
+    ensures { exit_status result ≡ (if agreed then 0 else 1) }
+{
+    ExitCode::from(u8::from(!agreed))
+}
+
+fn run(rt: &HostRuntime) -> anyhow::Result<ExitCode> {
     permutation_laws_stand();
     cipher_laws_stand();
-    let asked = Asked::read(rt)?;
-    run_published(rt, &asked)?;
-    for variant in [Variant::Dumbo, Variant::Jumbo, Variant::Delirium] {
-        run_variant(rt, &asked, variant)?;
+    let words: Vec<String> = env::args(rt)?.collect(rt.alloc())?;
+    match read(command(rt.alloc())?, words.as_slice()) {
+        Ok(matches) => run_asked(rt, &Asked::of(&matches)),
+        Err(notice) => Ok(notice.print(rt)?),
     }
-    Ok(())
 }
 
-fn main(rt: HostRuntime) -> anyhow::Result<()> {
-    run(&rt)
+fn main(rt: HostRuntime) -> ExitCode {
+    ended(&rt, "vectors", run(&rt))
 }

@@ -1,10 +1,14 @@
 // The published values of the permutations: Keccak-f[200] of zeros and of that again, and a hash by SPONGENT-160/160/16,
 // whose permutation is Jumbo's.
-ghost use Rattle.std.specs.Prelude.{◌≡◌, ◌≤◌, [], ◌∷◌, ◌++◌, length, take};
+ghost use Rattle.std.specs.Prelude.{◌≡◌, [], ◌∷◌, OnOk};
+ghost use Rattle.cipher.specs.Blocks.{xored};
+ghost use Rattle.engine.specs.Calls.{one_answer, one_after};
+ghost use Rattle.engine.specs.Permutation.{permutation};
+ghost use Rattle.vectors.specs.Published.{is_writing, is_permutation, keccak_trials, sponge_state, sponge_output, at_22_bytes, hash_answer, spongent_trials};
+ghost use Rattle.vectors.specs.Tallies.{tally};
 
 use crate::tallies::Tally;
 use engine::{Engine, EngineFault};
-use std::alloc::Global;
 
 const KECCAK_BYTES: usize = 25;
 
@@ -21,19 +25,29 @@ const MESSAGE: &str = "Sponge + Present = Spongent";
 const DIGEST: &str = "13188A4917EA29E258362C047B9BF00C22B5FE91";
 
 // Whether these are the bytes that hexadecimal digits write.
-fn are_written(heap: Global, bytes: &[u8], digits: &str) -> bool {
-    hex::decode(heap, digits).is_ok_and(|written| written.as_slice() == bytes)
+fn are_written<const N: usize>(bytes: &[u8; N], digits: &str) -> bool
+    ensures { result ≡ is_writing digits.now bytes.now }
+{
+    let mut written = [0u8; N];
+    hex::decode_to_slice(digits, &mut written).is_ok() && written == *bytes
 }
 
-// Has an engine of Delirium permute zeros, and what comes of them once more, and counts the published values met.
-pub fn try_keccak<E: Engine>(heap: Global, engine: &E) -> Tally {
-    let mut tally = Tally::new();
+// Permutes a block, and answers whether that is granted and gives what the digits write.
+fn permutes_to<E: Engine>(engine: &E, block: &mut [u8; KECCAK_BYTES], digits: &str) -> bool
+    ensures answer { result ≡ is_permutation (E.kind engine.now) block.old digits.now }
+    ensures block { block.new ≡ one_after (E.kind engine.now) block.old }
+{
+    engine.one(block).is_ok() && are_written(block, digits)
+}
+
+/// Has an engine of Delirium permute zeros, and what comes of them once more, and counts the published values met.
+pub fn try_keccak<E: Engine>(engine: &E) -> Tally
+    ensures { result ≡ tally (keccak_trials (E.kind engine.now) KECCAK_ONCE.now KECCAK_TWICE.now) }
+{
     let mut block = [0u8; KECCAK_BYTES];
-    for value in [KECCAK_ONCE, KECCAK_TWICE] {
-        let granted = engine.one(&mut block).is_ok();
-        tally.count(granted && are_written(heap, &block, value));
-    }
-    tally
+    let once = permutes_to(engine, &mut block, KECCAK_ONCE);
+    let twice = permutes_to(engine, &mut block, KECCAK_TWICE);
+    Tally::of(&[once, twice])
 }
 
 type State = [u8; SPONGENT_BYTES];
@@ -44,45 +58,59 @@ fn absorb<E: Engine>(
     state: &mut State,
     first: u8,
     second: u8,
-) -> Result<(), EngineFault> {
+) -> Result<(), EngineFault>
+    ensures answer { result ≡ at_22_bytes (E.kind engine.now) tt }
+    ensures state { state.new ≡ one_after (E.kind engine.now) (xored state.old (first ∷ second ∷ [])) }
+{
     state[0] ^= first;
     state[1] ^= second;
     engine.one(state)
 }
 
-// The last two bytes absorbed: what the pairs leave of a message, 80 hex, and a zero where there is room.
-fn last_pair(rest: &[u8]) -> [u8; 2]
-    requires { length rest.now ≤ 1 }
-    ensures { result ≡ take 2 (rest.now ++ 128 ∷ 0 ∷ []) }
+// Absorbs a message into the state, and 80 (hexadecimal) after it, and a zero where there is room.
+fn absorb_all<E: Engine>(engine: &E, state: &mut State, message: &[u8]) -> Result<(), EngineFault>
+    ensures answer { result ≡ at_22_bytes (E.kind engine.now) tt }
+    ensures state { OnOk result (state.new ≡ sponge_state (permutation (E.kind engine.now)) state.old message.now) }
 {
+    let mut rest = message;
+    while let [first, second, more @ ..] = rest {
+        absorb(engine, state, *first, *second)?;
+        rest = more;
+    }
     match rest {
-        [last] => [*last, 0x80],
-        _ => [0x80, 0],
+        [] => absorb(engine, state, 0x80, 0),
+        [last, ..] => absorb(engine, state, *last, 0x80),
     }
 }
 
-// The hash of a message, followed by 80 hex and zeros: two bytes at a time are absorbed into the state, and squeezed from it.
-fn hash<E: Engine>(engine: &E, message: &[u8]) -> Result<[u8; DIGEST_BYTES], EngineFault> {
-    let mut state = [0u8; SPONGENT_BYTES];
-    let pairs = message.chunks_exact(2);
-    let rest = pairs.remainder();
-    for pair in pairs {
-        absorb(engine, &mut state, pair[0], pair[1])?;
-    }
-    let [first, second] = last_pair(rest);
-    absorb(engine, &mut state, first, second)?;
+// Squeezes a digest from the state.
+fn squeeze<E: Engine>(engine: &E, state: &mut State) -> Result<[u8; DIGEST_BYTES], EngineFault>
+    ensures { result ≡ at_22_bytes (E.kind engine.now) (sponge_output (permutation (E.kind engine.now)) 10 state.old) }
+{
     let mut digest = [0u8; DIGEST_BYTES];
-    for pair in digest.chunks_exact_mut(2) {
-        pair.copy_from_slice(&state[..2]);
-        engine.one(&mut state)?;
+    for k in 0..DIGEST_BYTES / 2 {
+        digest[2 * k..2 * k + 2].copy_from_slice(&state[..2]);
+        engine.one(state)?;
     }
     Ok(digest)
 }
 
-// Hashes the message by an engine of Jumbo, and counts whether the published digest is met.
-pub fn try_spongent<E: Engine>(heap: Global, engine: &E) -> Tally {
-    let mut tally = Tally::new();
-    let digest = hash(engine, MESSAGE.as_bytes());
-    tally.count(digest.is_ok_and(|digest| are_written(heap, &digest, DIGEST)));
-    tally
+// The hash of a message.
+fn hash<E: Engine>(engine: &E, message: &[u8]) -> Result<[u8; DIGEST_BYTES], EngineFault>
+    ensures { result ≡ hash_answer (E.kind engine.now) message.now }
+{
+    let mut state = [0u8; SPONGENT_BYTES];
+    absorb_all(engine, &mut state, message)?;
+    squeeze(engine, &mut state)
+}
+
+/// Hashes the message by an engine of Jumbo, and counts whether the published digest is met.
+pub fn try_spongent<E: Engine>(engine: &E) -> Tally
+    ensures { result ≡ tally (spongent_trials (E.kind engine.now) MESSAGE.now DIGEST.now) }
+{
+    let met = match hash(engine, MESSAGE.as_bytes()) {
+        Ok(digest) => are_written(&digest, DIGEST),
+        Err(_) => false,
+    };
+    Tally::of(&[met])
 }

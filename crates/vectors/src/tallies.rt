@@ -1,9 +1,10 @@
 // Counts of trials.
-ghost use Rattle.std.specs.Prelude.{◌≡◌, ℕ, ◌+◌, ◌-◌, ◌^◌, min, if◌then◌else◌};
+ghost use Rattle.std.specs.Prelude.{◌≡◌};
+ghost use Rattle.vectors.specs.Tallies.{tally};
 
 use std::fmt;
 
-// How many trials there were, and how many agreed.
+/// How many trials there were, and how many agreed.
 #[derive(Clone, Copy)]
 pub struct Tally {
     pub tried: usize,
@@ -11,24 +12,13 @@ pub struct Tally {
 }
 
 impl Tally {
-    pub fn new() -> Tally
-        ensures tried { result.tried ≡ 0 }
-        ensures agreed { result.agreed ≡ 0 }
+    /// Counts trials, each of which is given by whether it agreed.
+    pub fn of(trials: &[bool]) -> Tally
+        ensures { result ≡ tally trials.now }
     {
         Tally {
-            tried: 0,
-            agreed: 0,
-        }
-    }
-
-    // Counts a trial.
-    pub fn count(&mut self, agrees: bool)
-        ensures tried { self.new.tried ≡ min (self.old.tried + 1) (2 ^ 64 - 1) }
-        ensures agreed { self.new.agreed ≡ (if agrees then min (self.old.agreed + 1) (2 ^ 64 - 1) else self.old.agreed) }
-    {
-        self.tried = self.tried.saturating_add(1);
-        if agrees {
-            self.agreed = self.agreed.saturating_add(1);
+            tried: trials.len(),
+            agreed: trials.iter().filter(|agreed| **agreed).count(),
         }
     }
 }
