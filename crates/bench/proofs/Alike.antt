@@ -3,14 +3,14 @@ use Rattle.std.proofs.Common.{◌≡◌, ℕ, ◌*◌, Bool, true, ◌&&◌, eqb
 use Rattle.fault.specs.Checks.{granted}
 use Rattle.engine.specs.declared.variants.Variant.{Variant}
 use Rattle.engine.specs.Permutation.{block_size}
-use Rattle.engine.specs.Calls.{answered, one_answer, one_after, four_answer, four_after}
+use Rattle.engine.specs.Calls.{answer_by_length, one_answer, one_after, four_answer, four_after}
 use Rattle.std.specs.Str.{bytes_eq}
 use Rattle.std.proofs.lemmas.Bool.{cond-true, eq-eqb, and_from}
 use Rattle.std.proofs.lemmas.List.{length-take-le}
 use Rattle.std.proofs.lemmas.Slice.Eq.{bytes_eq-Decides}
 use Rattle.bench.specs.Agreement.{agreement}
 
-answered-at : (m : ℕ) (xs : List ℕ) → length xs ≡ m → granted (answered m xs) ≡ true
+answered-at : (m : ℕ) (xs : List ℕ) → length xs ≡ m → granted (answer_by_length m xs) ≡ true
 answered-at m xs h = ap granted (cond-true (eqb (length xs) m) _ _ (eq-eqb (length xs) m h))
 
 alike : (g : Bool) (zs : List ℕ) → g ≡ true → (g && (g && bytes_eq zs zs)) ≡ true

@@ -11,14 +11,14 @@ use Rattle.engine.specs.declared.faults.EngineFault.{EngineFault}
 use Rattle.engine.specs.declared.faults.EngineFault.TheVariants.{BlockLength}
 use Rattle.engine.specs.Permutation.{permutation}
 use Rattle.engine.specs.Calls.{one_answer, one_after}
-use Rattle.cipher.specs.Blocks.{xored}
+use Rattle.cipher.specs.Blocks.{xor_of}
 use Rattle.cipher.proofs.XorLaws.{xored_nil, length_xored}
 use Rattle.vectors.specs.Published.{sponge_state, sponge_output, at_22_bytes}
 
 -- Two bytes xored into the first two.
 pub xored_pair : (s : List ℕ) (a b : ℕ) → 2 ≤ length s
-    → set (set s 0 (bit_xor (get_or s 0 0) a)) 1 (bit_xor (get_or (set s 0 (bit_xor (get_or s 0 0) a)) 1 0) b) ≡ xored s (a ∷ b ∷ [])
-unfolding xored
+    → set (set s 0 (bit_xor (get_or s 0 0) a)) 1 (bit_xor (get_or (set s 0 (bit_xor (get_or s 0 0) a)) 1 0) b) ≡ xor_of s (a ∷ b ∷ [])
+unfolding xor_of
 xored_pair [] a b h = absurd (omega arith)
 xored_pair (x ∷ []) a b h = absurd (omega arith)
 xored_pair (x ∷ y ∷ s) a b h = ap (λ r. bit_xor x a ∷ bit_xor y b ∷ r) (sym (xored_nil s))
@@ -43,40 +43,40 @@ at_22_refused Delirium x f e = cc
 
 -- A granted call for a block of 22 bytes leaves the permutation of what it was given.
 pub permuted : (v : Variant) (s t : List ℕ) (a b : ℕ) → length s ≡ 22 → (let r : Result (Unit {0}) EngineFault = Ok tt in at_22_bytes v tt ≡ r)
-    → t ≡ one_after v (xored s (a ∷ b ∷ [])) → t ≡ permutation v (xored s (a ∷ b ∷ []))
-permuted v s t a b h e is = is ∙ one_after_22 v (xored s (a ∷ b ∷ [])) (length_xored s (a ∷ b ∷ []) ∙ h) e
+    → t ≡ one_after v (xor_of s (a ∷ b ∷ [])) → t ≡ permutation v (xor_of s (a ∷ b ∷ []))
+permuted v s t a b h e is = is ∙ one_after_22 v (xor_of s (a ∷ b ∷ [])) (length_xored s (a ∷ b ∷ []) ∙ h) e
 
 -- Two bytes more, one byte left, and none.
 pub sponge_state-two : (f : List ℕ → List ℕ) (s xs : List ℕ) → 2 ≤ length xs
-    → sponge_state f (f (xored s (get_or xs 0 0 ∷ get_or xs 1 0 ∷ []))) (take (length xs - 2) (drop 2 xs)) ≡ sponge_state f s xs
+    → sponge_state f (f (xor_of s (get_or xs 0 0 ∷ get_or xs 1 0 ∷ []))) (take (length xs - 2) (drop 2 xs)) ≡ sponge_state f s xs
 unfolding sponge_state
 sponge_state-two f s [] h = absurd (omega arith)
 sponge_state-two f s (x ∷ []) h = absurd (omega arith)
 sponge_state-two f s (x ∷ y ∷ xs) h =
     let e : take (suc (suc (length xs)) - 2) xs ≡ xs = take_all _ xs (omega arith) in
-    ap (sponge_state f (f (xored s (x ∷ y ∷ [])))) e
+    ap (sponge_state f (f (xor_of s (x ∷ y ∷ [])))) e
 
-pub sponge_state-one : (f : List ℕ → List ℕ) (s xs : List ℕ) → length xs ≡ 1 → f (xored s (get_or xs 0 0 ∷ 128 ∷ [])) ≡ sponge_state f s xs
+pub sponge_state-one : (f : List ℕ → List ℕ) (s xs : List ℕ) → length xs ≡ 1 → f (xor_of s (get_or xs 0 0 ∷ 128 ∷ [])) ≡ sponge_state f s xs
 unfolding sponge_state
 sponge_state-one f s [] h = absurd (omega arith)
 sponge_state-one f s (x ∷ []) h = refl
 sponge_state-one f s (x ∷ y ∷ xs) h = absurd (omega arith)
 
-pub sponge_state-none : (f : List ℕ → List ℕ) (s xs : List ℕ) → length xs ≡ 0 → f (xored s (128 ∷ 0 ∷ [])) ≡ sponge_state f s xs
+pub sponge_state-none : (f : List ℕ → List ℕ) (s xs : List ℕ) → length xs ≡ 0 → f (xor_of s (128 ∷ 0 ∷ [])) ≡ sponge_state f s xs
 unfolding sponge_state
 sponge_state-none f s [] h = refl
 sponge_state-none f s (x ∷ xs) h = absurd (omega arith)
 
 -- A turn of the loop over a message.
 pub sponge_turn : (v : Variant) (s t xs : List ℕ) → length s ≡ 22 → (let r : Result (Unit {0}) EngineFault = Ok tt in at_22_bytes v tt ≡ r)
-    → t ≡ one_after v (xored s (get_or xs 0 0 ∷ get_or xs 1 0 ∷ [])) → 2 ≤ length xs
+    → t ≡ one_after v (xor_of s (get_or xs 0 0 ∷ get_or xs 1 0 ∷ [])) → 2 ≤ length xs
     → sponge_state (permutation v) t (take (length xs - 2) (drop 2 xs)) ≡ sponge_state (permutation v) s xs
 sponge_turn v s t xs h e is two =
     ap (λ u. sponge_state (permutation v) u (take (length xs - 2) (drop 2 xs))) (permuted v s t _ _ h e is) ∙ sponge_state-two (permutation v) s xs two
 
 -- Its end.
 pub sponge_end : (v : Variant) (s t out : List ℕ) (a b : ℕ) (r : Result (Unit {0}) EngineFault) → length s ≡ 22 → r ≡ at_22_bytes v tt
-    → t ≡ one_after v (xored s (a ∷ b ∷ [])) → permutation v (xored s (a ∷ b ∷ [])) ≡ out → OnOk r (t ≡ out)
+    → t ≡ one_after v (xor_of s (a ∷ b ∷ [])) → permutation v (xor_of s (a ∷ b ∷ [])) ≡ out → OnOk r (t ≡ out)
 sponge_end v s t out a b (Ok u) h e is end = permuted v s t a b h (sym e) is ∙ end
 sponge_end v s t out a b (Err f) h e is end = tt
 

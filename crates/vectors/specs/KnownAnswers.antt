@@ -4,7 +4,7 @@ use Rattle.std.specs.Str.{bytes_eq}
 use Rattle.fault.specs.Checks.{granted}
 use Rattle.engine.specs.declared.variants.Variant.{Variant}
 use Rattle.cipher.specs.Mode.{sealed_text, tag}
-use Rattle.cipher.specs.Calls.{CheckedText, seal_answer, check_answer, open_answer, opened}
+use Rattle.cipher.specs.Calls.{CheckedText, seal_answer, check_answer, open_answer, text_of_checked}
 use Rattle.cipher.specs.declared.faults.CipherFault.{CipherFault}
 use Rattle.cipher.specs.declared.faults.CipherFault.TheVariants.{KeyLength, NonceLength, AssociatedDataLength, TextLength, TagLength, OutputLength, WrongTag, Engine}
 use Rattle.vectors.specs.Bytes.{changed}
@@ -32,7 +32,7 @@ checking v a tag_place = check_answer v a.key a.nonce a.associated a.sealed tag_
 
 -- Whether a check is granted, and the checked text opens to this text, in a place of its length.
 abbrev pub opening_agreement : Result CheckedText CipherFault → List ℕ → Bool
-opening_agreement (Ok t) text = granted (open_answer t text) && bytes_eq (opened t) text
+opening_agreement (Ok t) text = granted (open_answer t text) && bytes_eq (text_of_checked t) text
 opening_agreement (Err f) text = false
 
 -- Whether a check is refused for the tag, and not for a size.

@@ -10,7 +10,7 @@ use Rattle.engine.specs.declared.faults.EngineFault.{EngineFault}
 use Rattle.engine.specs.declared.faults.EngineFault.TheVariants.{BlockLength}
 use Rattle.engine.specs.Permutation.{block_size, permutation}
 use Rattle.engine.specs.Calls.{one_answer, one_after}
-use Rattle.cipher.specs.Blocks.{xored}
+use Rattle.cipher.specs.Blocks.{xor_of}
 
 -- Whether decoded digits are these bytes.
 abbrev pub is_decoding : Result (List ℕ) FromHexError → List ℕ → Bool
@@ -34,9 +34,9 @@ keccak_trials v once twice =
 -- The state of a sponge after a message: two bytes at a time are absorbed into its first two bytes, and f permutes it after each
 -- pair. The byte 80 (hexadecimal) follows the message, and a zero where there is room.
 unfoldable pub sponge_state : (List ℕ → List ℕ) → List ℕ → List ℕ → List ℕ
-sponge_state f s [] = f (xored s (0x80 ∷ 0 ∷ []))
-sponge_state f s (a ∷ []) = f (xored s (a ∷ 0x80 ∷ []))
-sponge_state f s (a ∷ b ∷ message) = sponge_state f (f (xored s (a ∷ b ∷ []))) message
+sponge_state f s [] = f (xor_of s (0x80 ∷ 0 ∷ []))
+sponge_state f s (a ∷ []) = f (xor_of s (a ∷ 0x80 ∷ []))
+sponge_state f s (a ∷ b ∷ message) = sponge_state f (f (xor_of s (a ∷ b ∷ []))) message
 
 -- The output of a sponge, k pairs of bytes: the first two bytes of the state, which f permutes after each pair.
 unfoldable pub sponge_output : (List ℕ → List ℕ) → ℕ → List ℕ → List ℕ

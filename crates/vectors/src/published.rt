@@ -1,7 +1,7 @@
 // The published values of the permutations: Keccak-f[200] of zeros and of that again, and a hash by SPONGENT-160/160/16,
 // whose permutation is Jumbo's.
 ghost use Rattle.std.specs.Prelude.{◌≡◌, [], ◌∷◌, OnOk};
-ghost use Rattle.cipher.specs.Blocks.{xored};
+ghost use Rattle.cipher.specs.Blocks.{xor_of};
 ghost use Rattle.engine.specs.Calls.{one_answer, one_after};
 ghost use Rattle.engine.specs.Permutation.{permutation};
 ghost use Rattle.vectors.specs.Published.{is_writing, is_permutation, keccak_trials, sponge_state, sponge_output, at_22_bytes, hash_answer, spongent_trials};
@@ -60,7 +60,7 @@ fn absorb<E: Engine>(
     second: u8,
 ) -> Result<(), EngineFault>
     ensures answer { result ≡ at_22_bytes (E.kind engine.now) tt }
-    ensures state { state.new ≡ one_after (E.kind engine.now) (xored state.old (first ∷ second ∷ [])) }
+    ensures state { state.new ≡ one_after (E.kind engine.now) (xor_of state.old (first ∷ second ∷ [])) }
 {
     state[0] ^= first;
     state[1] ^= second;
