@@ -50,7 +50,7 @@ impl Fault for EnvelopeFault {
     }
 }
 
-// By a rule of the project each layer above has such a `From`, for `?` to pass a fault of the cipher up, held whole.
+// For `?`, which passes a fault of the cipher up, held whole.
 impl From<CipherFault> for EnvelopeFault {
     ghost from_gives = { λ f r. r ≡ by_cipher f };
 

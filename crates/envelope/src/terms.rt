@@ -6,8 +6,8 @@ use big_endian::{number_of, put_number};
 /// The most bytes that terms may have.
 pub const MOST_TERMS_BYTES: usize = 64;
 
-// Four numbers of sixteen bytes each, filled with zeros after the terms, and how many bytes the terms have. By a rule of the project a head
-// holds its terms as plain numbers and no array.
+// Four numbers of sixteen bytes each, filled with zeros after the terms, and how many bytes the terms have: a head holds its terms as plain
+// numbers and no array.
 #[derive(Clone, Copy)]
 pub struct Terms {
     a: u128,

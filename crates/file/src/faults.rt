@@ -70,7 +70,7 @@ impl Fault for FileFault {
     }
 }
 
-// By a rule of the project each layer above has such a `From`, for `?` to pass a fault of the layer below up, held whole.
+// For `?`, which passes a fault of a lower layer up, held whole.
 impl From<CipherFault> for FileFault {
     ghost from_gives = { λ f r. r ≡ by_cipher f };
 

@@ -15,8 +15,7 @@ pub struct Gathered<'a> {
 }
 
 // A sale while it is gathered: what the lines said so far, with its register in the first of the places lent for it.
-// The places stand here without a list over them: were they lent to a list inside this struct, what they hold would no longer be known once the
-// struct is lent to a function and given back.
+// The places stand here without a list over them: what a list held inside another struct was lent is not known after the outer one.
 #[derive(Drop)]
 pub(crate) struct Gathering<'a, 'p> {
     pub(crate) sale: Gathered<'a>,

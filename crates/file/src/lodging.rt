@@ -26,8 +26,7 @@ fn decoded(heap: Global, digits: &[u8]) -> Result<Vec<u8>, AllocError>
 }
 
 // Lodges the envelope of a line, and adds the line with the answer: by the rules of the report 0 where it is accepted, else the number of the
-// refusal. The room and the report go side by side: in a struct lent to a function, what the room's place holds would no longer be known once it
-// is given back.
+// refusal. The room and the report go side by side, since a struct that lends a room over any engine is not covered by the check.
 fn lodge_line<E: Engine + Drop>(
     room: &mut Room<E>,
     line: u32,

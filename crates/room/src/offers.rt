@@ -37,8 +37,7 @@ impl<E: Engine> Conditions<'_, E> {
         self.open_amount(&slot.key, &nonce, &slot.letter, &slot.tag[..t], work)
     }
 
-    // The amount in a sealed letter, and 0 where its tag is wrong. Key and nonce are slices: tried as arrays, and the proof did not close, since
-    // the elements of a lent slice are known to be bytes, and those of a lent array are not.
+    // The amount in a sealed letter, and 0 where its tag is wrong. Key and nonce are slices, whose elements are known to be bytes.
     fn open_amount(
         &self,
         key: &[u8],

@@ -65,9 +65,8 @@ impl RoomState {
 }
 
 impl<E: Engine> Conditions<'_, E> {
-    // Lists on the sheet each bidder whose amount is above 0, and answers how many there are. That the bidders' numbers fit is said here of
-    // slots, as by `enroll` of a register, since a number is known to fit where it is read. A ghost field of the slot in its place: tried, and
-    // the proof did not close, since a slot with one could not be lent while the room's terms are.
+    // Lists on the sheet each bidder whose amount is above 0, and answers how many there are. `fit` says that the bidders' numbers have 32 bits, as
+    // `enroll` does of a register.
     fn fill_sheet(
         &self,
         slots: &[Slot],

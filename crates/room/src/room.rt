@@ -64,7 +64,6 @@ impl<'r, E: Engine + Drop> Room<'r, E> {
 
     /// Opens all that was lodged: lists each bidder whose amount is above 0 on the sheet, writes the page, and answers its length in bytes. The
     /// work area is all zero afterwards, granted or refused. The room stays as it is.
-    // The three places are lent one by one: in a struct, what they hold would be lost.
     pub fn open(
         &self,
         sheet: &mut [SheetEntry],
