@@ -1,9 +1,9 @@
 -- Terms: bytes held as numbers, there and back.
-use Rattle.std.proofs.Common.{◌≡◌, ℕ, ◌+◌, ◌<◌, ◌≤◌, List, ◌++◌, length, take, drop, sym, refl, ap, ◌∙◌, ap₂, arith}
+use Rattle.std.proofs.Common.{◌≡◌, ℕ, ◌+◌, ◌-◌, ◌<◌, ◌≤◌, List, ◌++◌, length, take, drop, replicate, sym, refl, ap, ◌∙◌, ap₂, arith}
 use borrow.Rule.Slice.PartMut.{put_mid, post_of}
 use Rattle.std.specs.Int.Digits.{number_from_digits, AllBelowBase}
 use Rattle.std.proofs.ByRecursion.{All-take, All-drop}
-use Rattle.std.proofs.lemmas.List.{take_all, take-append-drop, drop-drop, length-take-le, length-drop, length-append, append_assoc}
+use Rattle.std.proofs.lemmas.List.{take_all, take-append-drop, drop-drop, length-take-le, length-drop, length-append, append_assoc, drop-replicate}
 use Rattle.big_endian.specs.Numbers.{bytes_of}
 use Rattle.big_endian.proofs.Laws.{bytes_back, bytes_of_length}
 use Rattle.envelope.specs.Terms.{held_bytes, bytes_of_terms}
@@ -61,6 +61,10 @@ terms_length t = let s = t.short in length-take-le t.len (held_bytes t) (omega (
 
 pub terms_short : (t : Terms) → length (bytes_of_terms t) ≤ 64
 terms_short t = let s = t.short in omega (arith, terms_length t)
+
+-- What is left of 64 zeros behind n others.
+pub zeros_left : (n : ℕ) → drop {A = ℕ} n (replicate 64 0) ≡ replicate (64 - n) 0
+zeros_left n = drop-replicate n 64 0
 
 -- What stands in 64 places after the four numbers are written.
 pub held_written : (t : Terms) (xs ya yb yc yd : List ℕ) → length xs ≡ 64 → ya ≡ bytes_of 16 t.a → yb ≡ bytes_of 16 t.b → yc ≡ bytes_of 16 t.c → yd ≡ bytes_of 16 t.d

@@ -22,6 +22,7 @@ impl Terms {
     ghost use Rattle.envelope.specs.Terms.{bytes_of_terms, held_bytes};
 
     // The terms that the bytes write, filled with zeros.
+    #[tactic(auto, using(crate::proofs::TermsLaws::zeros_left))]
     pub(crate) fn new(bytes: &[u8]) -> Terms
         requires { length bytes.now ≤ 64 }
         ensures terms { bytes_of_terms result ≡ bytes.now }
