@@ -4,7 +4,7 @@ use Rattle.std.specs.Int.Digits.{number_from_digits}
 use Rattle.std.specs.Str.{bytes_eq}
 use Rattle.std.proofs.lemmas.Slice.Eq.{bytes_eq-Decides}
 use Rattle.std.proofs.lemmas.Bool.{eqb-true, ne_eqb, leb-true, le-leb, lt-leb, false_from_ne_true}
-use Rattle.fault.specs.Checks.{Check, decided, granted}
+use Rattle.fault.specs.Checks.{Check, decision, is_granted}
 use Rattle.fault.proofs.Checks.{AllPassed, granted_exactly_where_passed}
 use Rattle.engine.specs.declared.variants.Variant.{Variant}
 use Rattle.cipher.specs.Mode.{tag_size, tag}
@@ -40,7 +40,7 @@ module _ (v : Variant) (key nonce associated text tag_place : List ℕ) (others 
   )
 
   -- Where all sizes are lawful, the other checks decide.
-  others_decide : {X : Type 0} (x : X) → LawfulSizes v key nonce associated text tag_place → decided (size_checks v key nonce associated text tag_place others) x ≡ decided others x
+  others_decide : {X : Type 0} (x : X) → LawfulSizes v key nonce associated text tag_place → decision (size_checks v key nonce associated text tag_place others) x ≡ decision others x
   others_decide x l =
       rw (
         eq-eqb (length key) 16 l.key_length,
@@ -50,7 +50,7 @@ module _ (v : Variant) (key nonce associated text tag_place : List ℕ) (others 
         eq-eqb (length tag_place) (tag_size v) l.tag_length,
       )
 
-  first_decides : {X : Type 0} (x : X) → FirstSizeDecides (decided (size_checks v key nonce associated text tag_place others) x) v key nonce associated text tag_place
+  first_decides : {X : Type 0} (x : X) → FirstSizeDecides (decision (size_checks v key nonce associated text tag_place others) x) v key nonce associated text tag_place
   first_decides x =
       record {
         the_key = λ h. rw (ne_eqb (length key) 16 h);
@@ -72,7 +72,7 @@ module _ (v : Variant) (key nonce associated text out tag_place : List ℕ) wher
   abbrev fits : List (Check CipherFault)
   fits = ((length out == length text), OutputLength) ∷ []
 
-  sealing_granted : (granted (seal_answer v key nonce associated text out tag_place) ≡ true) ↔ (LawfulSizes v key nonce associated text tag_place × (length out ≡ length text))
+  sealing_granted : (is_granted (seal_answer v key nonce associated text out tag_place) ≡ true) ↔ (LawfulSizes v key nonce associated text tag_place × (length out ≡ length text))
   sealing_granted =
       let by_checks = granted_exactly_where_passed (size_checks v key nonce associated text tag_place fits) tt in (
         (λ e. let p = sizes_passed v key nonce associated text tag_place fits (by_checks.0 e) in (p.0, eqb-true (length out) (length text) p.1.0)),
@@ -93,7 +93,7 @@ module _ (v : Variant) (key nonce associated text tag_place : List ℕ) where
   abbrev checked : CheckedText
   checked = record { variant = v; key = number_from_digits 256 key; nonce = number_from_digits 256 nonce; sealed = text }
 
-  checking_granted : (granted (check_answer v key nonce associated text tag_place) ≡ true) ↔ (LawfulSizes v key nonce associated text tag_place × (tag_place ≡ tag v key nonce associated text))
+  checking_granted : (is_granted (check_answer v key nonce associated text tag_place) ≡ true) ↔ (LawfulSizes v key nonce associated text tag_place × (tag_place ≡ tag v key nonce associated text))
   checking_granted =
       let by_checks = granted_exactly_where_passed (size_checks v key nonce associated text tag_place right) checked in
       let decides = bytes_eq-Decides tag_place (tag v key nonce associated text) in (

@@ -6,7 +6,7 @@ use Rattle.std.specs.Str.{bytes_eq}
 use Rattle.std.proofs.lemmas.Slice.Eq.{bytes_eq-Decides}
 use Rattle.std.proofs.lemmas.Bool.{le-leb}
 use Rattle.std.proofs.lemmas.List.{length-take-le, take-take}
-use Rattle.fault.specs.Checks.{granted}
+use Rattle.fault.specs.Checks.{is_granted}
 use Rattle.big_endian.proofs.Laws.{bytes_back}
 use Rattle.engine.specs.Permutation.{block_size}
 use Rattle.engine.specs.declared.variants.Variant.{Variant}
@@ -95,15 +95,15 @@ sized_check v key nonce associated text tag_place l =
       eq-eqb (length tag_place) (tag_size v) l.tag_length,
     )
 
-granted_cond : (b : Bool) (t : CheckedText) (f : CipherFault) → (let r : Result CheckedText CipherFault = cond b (Ok t) (Err f) in granted r ≡ b)
+granted_cond : (b : Bool) (t : CheckedText) (f : CipherFault) → (let r : Result CheckedText CipherFault = cond b (Ok t) (Err f) in is_granted r ≡ b)
 granted_cond true t f = refl
 granted_cond false t f = refl
 
 pub right_tag_passes : (v : Variant) (key nonce associated text tag_place : List ℕ) → LawfulSizes v key nonce associated text tag_place
-    → (granted (check_answer v key nonce associated text tag_place) ≡ true) ↔ (tag_place ≡ tag v key nonce associated text)
+    → (is_granted (check_answer v key nonce associated text tag_place) ≡ true) ↔ (tag_place ≡ tag v key nonce associated text)
 right_tag_passes v key nonce associated text tag_place l =
-    let same : granted (check_answer v key nonce associated text tag_place) ≡ bytes_eq tag_place (tag v key nonce associated text) =
-    ap granted (sized_check v key nonce associated text tag_place l) ∙ granted_cond (bytes_eq tag_place (tag v key nonce associated text)) _ WrongTag in
+    let same : is_granted (check_answer v key nonce associated text tag_place) ≡ bytes_eq tag_place (tag v key nonce associated text) =
+    ap is_granted (sized_check v key nonce associated text tag_place l) ∙ granted_cond (bytes_eq tag_place (tag v key nonce associated text)) _ WrongTag in
     let decides = bytes_eq-Decides tag_place (tag v key nonce associated text) in
     ((λ e. decides.0 (sym same ∙ e)), (λ e. same ∙ decides.1 e))
 

@@ -1,7 +1,7 @@
 -- What sealing, checking and opening mean together.
 use Rattle.std.specs.Prelude.{◌≡◌, ◌≢◌, ℕ, ◌<◌, ◌≤◌, true, ◌↔◌, List, length, Err, Result}
 use Rattle.std.specs.Int.Digits.{number_from_digits, AllBelowBase}
-use Rattle.fault.specs.Checks.{granted}
+use Rattle.fault.specs.Checks.{is_granted}
 use Rattle.engine.specs.declared.variants.Variant.{Variant}
 use Rattle.engine.specs.declared.variants.Variant.TheVariants.{Dumbo, Jumbo, Delirium}
 use Rattle.cipher.specs.Mode.{tag_size, tag, sealed_text, opened_text}
@@ -31,11 +31,11 @@ pub record LawsOfAnswers : Type 0 where
   -- Tags have 8, 8 and 16 bytes.
   pub tags_have_8_8_and_16_bytes : (tag_size Dumbo ≡ 8) × (tag_size Jumbo ≡ 8) × (tag_size Delirium ≡ 16)
   -- A key is granted exactly where it has 16 bytes.
-  pub a_key_is_granted_exactly_where_it_has_16_bytes : (key : List ℕ) → (granted (key_answer key) ≡ true) ↔ (length key ≡ 16)
+  pub a_key_is_granted_exactly_where_it_has_16_bytes : (key : List ℕ) → (is_granted (key_answer key) ≡ true) ↔ (length key ≡ 16)
   -- Sealing is granted exactly where all sizes are lawful and the output is as long as the text.
   pub sealing_is_granted_exactly_where_all_sizes_are_lawful :
       (v : Variant) (key nonce associated text out tag_place : List ℕ)
-      → (granted (seal_answer v key nonce associated text out tag_place) ≡ true)
+      → (is_granted (seal_answer v key nonce associated text out tag_place) ≡ true)
       ↔ (LawfulSizes v key nonce associated text tag_place × (length out ≡ length text))
   -- Sealing is refused for the first unlawful size, the output's length being the last.
   pub sealing_is_refused_for_the_first_fault :
@@ -46,7 +46,7 @@ pub record LawsOfAnswers : Type 0 where
   -- Checking is granted exactly where all sizes are lawful and the tag is right.
   pub checking_is_granted_exactly_where_sizes_and_tag_are_right :
       (v : Variant) (key nonce associated text tag_place : List ℕ)
-      → (granted (check_answer v key nonce associated text tag_place) ≡ true)
+      → (is_granted (check_answer v key nonce associated text tag_place) ≡ true)
       ↔ (LawfulSizes v key nonce associated text tag_place × (tag_place ≡ tag v key nonce associated text))
   -- Checking is refused for the first unlawful size, and a wrong tag comes last.
   pub checking_is_refused_for_the_first_fault :
@@ -56,7 +56,7 @@ pub record LawsOfAnswers : Type 0 where
       → check_answer v key nonce associated text tag_place ≡ Err WrongTag)
   -- Opening is granted exactly where the output is as long as the sealed text.
   pub opening_is_granted_exactly_where_the_output_fits :
-      (t : CheckedText) (out : List ℕ) → (granted (open_answer t out) ≡ true) ↔ (length out ≡ length t.sealed)
+      (t : CheckedText) (out : List ℕ) → (is_granted (open_answer t out) ≡ true) ↔ (length out ≡ length t.sealed)
 
 -- The laws of the cipher.
 pub record CipherLaws : Type 0 where
@@ -65,7 +65,7 @@ pub record CipherLaws : Type 0 where
   -- Where all sizes are lawful, a text passes exactly when its tag is the defined one.
   pub passes_exactly_when_the_tag_is_right :
       (v : Variant) (key nonce associated text tag_place : List ℕ) → LawfulSizes v key nonce associated text tag_place
-      → (granted (check_answer v key nonce associated text tag_place) ≡ true) ↔ (tag_place ≡ tag v key nonce associated text)
+      → (is_granted (check_answer v key nonce associated text tag_place) ≡ true) ↔ (tag_place ≡ tag v key nonce associated text)
   -- Opening a sealed text gives that text.
   pub opening_a_sealed_text_gives_it_back :
       (v : Variant) (key nonce text : List ℕ) → opened_text v key nonce (sealed_text v key nonce text) ≡ text

@@ -1,7 +1,7 @@
 // Checking of received texts, and opening of checked ones.
 ghost use Rattle.std.specs.Prelude.{◌≡◌, ℕ, ◌+◌, ◌*◌, ◌<◌, ◌≤◌, length, Ok};
 ghost use Rattle.std.specs.Str.{bytes_eq};
-ghost use Rattle.fault.specs.Checks.{left};
+ghost use Rattle.fault.specs.Checks.{by_answer};
 ghost use Rattle.cipher.specs.Mode.{tag_from};
 ghost use Rattle.cipher.specs.Groups.{block_in};
 ghost use Rattle.cipher.specs.Calls.{check_answer, open_answer, text_of_checked};
@@ -88,7 +88,7 @@ impl<'a> Checked<'a> {
         out: &mut [u8],
     ) -> Result<(), (CipherFault, Checked<'a>)>
         ensures answer { open_seen result ≡ open_answer (text_of self.entry) out.old }
-        ensures out { out.new ≡ left result (text_of_checked (text_of self.entry)) out.old }
+        ensures out { out.new ≡ by_answer result (text_of_checked (text_of self.entry)) out.old }
         ensures again { GivesBack (text_of self.entry) result }
     {
         match self.open_into(engine, out) {
@@ -121,7 +121,7 @@ impl<'a> Checked<'a> {
     // Writes what the text opens to: by the engine lent, or by the plain engine of the text's variant where that one is of another.
     fn open_into<E: Engine>(&self, engine: &E, out: &mut [u8]) -> Result<(), CipherFault>
         ensures answer { result ≡ open_answer (text_of self.now) out.old }
-        ensures out { out.new ≡ left result (text_of_checked (text_of self.now)) out.old }
+        ensures out { out.new ≡ by_answer result (text_of_checked (text_of self.now)) out.old }
     {
         self.refuses(out)?;
         if engine.variant() == self.variant {

@@ -1,6 +1,6 @@
 // Sealing of texts.
 ghost use Rattle.std.specs.Prelude.{◌≡◌, length, Ok};
-ghost use Rattle.fault.specs.Checks.{left};
+ghost use Rattle.fault.specs.Checks.{by_answer};
 ghost use Rattle.cipher.specs.Mode.{tag_size, sealed_text, tag as tag_of};
 ghost use Rattle.cipher.specs.Calls.{seal_answer};
 
@@ -22,8 +22,8 @@ pub fn seal<E: Engine>(
     tag: &mut [u8],
 ) -> Result<(), CipherFault>
     ensures answer { result ≡ seal_answer (E.kind engine.now) key.now nonce.now associated.now text.now out.old tag.old }
-    ensures out { out.new ≡ left result (sealed_text (E.kind engine.now) key.now nonce.now text.now) out.old }
-    ensures tag { tag.new ≡ left result (tag_of (E.kind engine.now) key.now nonce.now associated.now (sealed_text (E.kind engine.now) key.now nonce.now text.now)) tag.old }
+    ensures out { out.new ≡ by_answer result (sealed_text (E.kind engine.now) key.now nonce.now text.now) out.old }
+    ensures tag { tag.new ≡ by_answer result (tag_of (E.kind engine.now) key.now nonce.now associated.now (sealed_text (E.kind engine.now) key.now nonce.now text.now)) tag.old }
 {
     let lawful = check_sizes(engine.variant(), key, nonce, associated, text, tag)?;
     if out.len() != text.len() {

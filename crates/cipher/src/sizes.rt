@@ -1,6 +1,6 @@
 // The sizes of keys, nonces, texts and tags, and the checks of them.
 ghost use Rattle.std.specs.Prelude.{◌≡◌, [], ◌∷◌};
-ghost use Rattle.fault.specs.Checks.{decided};
+ghost use Rattle.fault.specs.Checks.{decision};
 ghost use Rattle.cipher.specs.Mode.{tag_size};
 ghost use Rattle.cipher.specs.Calls.{key_check, size_checks, key_answer};
 ghost use Rattle.cipher.specs.Views.{lawful_seen, key_seen};
@@ -48,7 +48,7 @@ pub fn tag_bytes(variant: Variant) -> usize
 
 // A key of the right length.
 fn sized_key(key: &[u8]) -> Result<&[u8; KEY_BYTES], CipherFault>
-    ensures { key_seen result ≡ decided (key_check key.now ∷ []) key.now }
+    ensures { key_seen result ≡ decision (key_check key.now ∷ []) key.now }
 {
     key.as_array().ok_or(CipherFault::KeyLength)
 }
@@ -70,7 +70,7 @@ pub(crate) fn check_sizes<'a>(
     text: &[u8],
     tag: &[u8],
 ) -> Result<Lawful<'a>, CipherFault>
-    ensures { lawful_seen result ≡ decided (size_checks variant key.now nonce.now associated.now text.now tag.now []) (key.now, nonce.now) }
+    ensures { lawful_seen result ≡ decision (size_checks variant key.now nonce.now associated.now text.now tag.now []) (key.now, nonce.now) }
 {
     let key = sized_key(key)?;
     let nonce = nonce.as_array().ok_or(CipherFault::NonceLength)?;

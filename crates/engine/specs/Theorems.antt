@@ -1,6 +1,6 @@
 -- Laws of the definitions that the public documents state in other words.
 use Rattle.std.specs.Prelude.{◌≡◌, ℕ, zero, suc, ◌+◌, ◌*◌, ◌%◌, ◌<◌, Bool, true, false, ◌↔◌, if◌then◌else◌, List, length, bit_xor, nat_lt, slice_index, slice_index_or}
-use Rattle.fault.specs.Checks.{granted}
+use Rattle.fault.specs.Checks.{is_granted}
 use Rattle.binary.specs.Bits.{list_from_fn}
 use Rattle.engine.specs.Spongent.{place, move}
 use Rattle.engine.specs.Keccak.{constants}
@@ -37,15 +37,15 @@ pub record PermutationKeepsBlocks : Type 0 where
 -- A call is granted exactly where the place holds one block, or four, and then permutes each; a refused one leaves the place as it was.
 pub record CallsAreGrantedByLength : Type 0 where
   pub one_is_granted_exactly_where_there_is_one_block :
-      (v : Variant) (xs : List ℕ) → (granted (one_answer v xs) ≡ true) ↔ (length xs ≡ block_size v)
+      (v : Variant) (xs : List ℕ) → (is_granted (one_answer v xs) ≡ true) ↔ (length xs ≡ block_size v)
   pub four_is_granted_exactly_where_there_are_four :
-      (v : Variant) (xs : List ℕ) → (granted (four_answer v xs) ≡ true) ↔ (length xs ≡ 4 * block_size v)
-  pub one_permutes_the_block : (v : Variant) (xs : List ℕ) → granted (one_answer v xs) ≡ true → one_after v xs ≡ permutation v xs
+      (v : Variant) (xs : List ℕ) → (is_granted (four_answer v xs) ≡ true) ↔ (length xs ≡ 4 * block_size v)
+  pub one_permutes_the_block : (v : Variant) (xs : List ℕ) → is_granted (one_answer v xs) ≡ true → one_after v xs ≡ permutation v xs
   pub four_permutes_each :
-      (v : Variant) (xs : List ℕ) → granted (four_answer v xs) ≡ true → four_after v xs ≡ each (permutation v) (block_size v) 4 xs
+      (v : Variant) (xs : List ℕ) → is_granted (four_answer v xs) ≡ true → four_after v xs ≡ each (permutation v) (block_size v) 4 xs
   pub a_refused_call_leaves_the_place :
       (v : Variant) (xs : List ℕ)
-      → (granted (one_answer v xs) ≡ false → one_after v xs ≡ xs) × (granted (four_answer v xs) ≡ false → four_after v xs ≡ xs)
+      → (is_granted (one_answer v xs) ≡ false → one_after v xs ≡ xs) × (is_granted (four_answer v xs) ≡ false → four_after v xs ≡ xs)
 
 -- The laws together.
 pub record PermutationLaws : Type 0 where

@@ -1,7 +1,7 @@
 -- Bids: how the parts of an envelope are written, and what sealing leaves.
 use Rattle.std.proofs.Common.{◌≡◌, ℕ, ◌≤◌, List, ◌++◌, length, take, Ok, Result, sym, ap, ◌∙◌, ap₂, arith, eq-eqb}
 use Rattle.std.proofs.lemmas.Bool.{le-leb}
-use Rattle.fault.specs.Checks.{left}
+use Rattle.fault.specs.Checks.{by_answer}
 use Rattle.engine.specs.declared.variants.Variant.{Variant}
 use Rattle.cipher.specs.Mode.{tag_size, tag, sealed_text}
 use Rattle.cipher.specs.Calls.{seal_answer}
@@ -9,7 +9,7 @@ use Rattle.cipher.specs.declared.faults.CipherFault.{CipherFault}
 use Rattle.envelope.specs.Letters.{letter}
 use Rattle.envelope.specs.Terms.{held_bytes, bytes_of_terms}
 use Rattle.envelope.specs.Heads.{head}
-use Rattle.envelope.specs.Envelopes.{enveloped, bid}
+use Rattle.envelope.specs.Envelopes.{envelope_of, bid}
 use Rattle.envelope.specs.declared.terms.Terms.{Terms}
 use Rattle.envelope.specs.declared.faults.EnvelopeFault.{EnvelopeFault}
 use Rattle.envelope.proofs.TermsLaws.{terms_length}
@@ -28,14 +28,14 @@ sealing_granted v key nonce associated text out place lk ln la lt lo lp =
     )
 
 pub sealing_leaves : (v : Variant) (key nonce associated text out place x new old : List ℕ) (r : Result (Unit {0}) CipherFault)
-    → r ≡ seal_answer v key nonce associated text out place → x ≡ left r new old
+    → r ≡ seal_answer v key nonce associated text out place → x ≡ by_answer r new old
     → length key ≡ 16 → length nonce ≡ 12 → length associated ≤ 64 → length text ≡ 64 → length out ≡ 64 → length place ≡ tag_size v → x ≡ new
 sealing_leaves v key nonce associated text out place x new old r answer e lk ln la lt lo lp =
-    e ∙ ap (λ q. left q new old) (answer ∙ sealing_granted v key nonce associated text out place lk ln la lt lo lp)
+    e ∙ ap (λ q. by_answer q new old) (answer ∙ sealing_granted v key nonce associated text out place lk ln la lt lo lp)
 
 pub enveloped_parts : (v : Variant) (key terms h l sealed tg place : List ℕ) → place ≡ h ++ (sealed ++ tg) → sealed ≡ sealed_text v key h l → tg ≡ tag v key h terms (sealed_text v key h l)
-    → place ≡ enveloped v key terms h l
-unfolding enveloped
+    → place ≡ envelope_of v key terms h l
+unfolding envelope_of
 enveloped_parts v key terms h l sealed tg place e es et = e ∙ ap₂ (λ a b. h ++ (a ++ b)) es et
 
 -- The first bytes of what terms hold are the terms.
@@ -48,8 +48,8 @@ terms_cut t n filled en ef =
 -- What a granted sealing of a bid leaves in the place.
 pub bid_written : (v : Variant) (key : List ℕ) (t : Terms) (l b s amount n : ℕ) (note h lt filled place old : List ℕ) (r : Result (Unit {0}) EnvelopeFault)
     → r ≡ Ok tt → h ≡ head l b s → lt ≡ letter amount note → filled ≡ held_bytes t → n ≡ length (bytes_of_terms t)
-    → place ≡ enveloped v key (take n filled) h lt → place ≡ left r (bid v key (bytes_of_terms t) l b s amount note) old
+    → place ≡ envelope_of v key (take n filled) h lt → place ≡ by_answer r (bid v key (bytes_of_terms t) l b s amount note) old
 unfolding bid
 bid_written v key t l b s amount n note h lt filled place old r er eh el ef en e =
-    e ∙ ap (λ z. enveloped v key z h lt) (terms_cut t n filled en ef) ∙ ap₂ (enveloped v key (bytes_of_terms t)) eh el
-    ∙ sym (ap (λ q. left q (enveloped v key (bytes_of_terms t) (head l b s) (letter amount note)) old) er)
+    e ∙ ap (λ z. envelope_of v key z h lt) (terms_cut t n filled en ef) ∙ ap₂ (envelope_of v key (bytes_of_terms t)) eh el
+    ∙ sym (ap (λ q. by_answer q (envelope_of v key (bytes_of_terms t) (head l b s) (letter amount note)) old) er)

@@ -4,16 +4,16 @@ use Rattle.std.specs.Int.Digits.{number_from_digits, AllBelowBase}
 use Rattle.std.proofs.ByRecursion.{All-take, All-drop}
 use Rattle.std.proofs.lemmas.Bool.{cases_Bool}
 use Rattle.std.proofs.lemmas.List.{take_at, take-take, drop_at, drop-drop, drop-take, take-append-drop, drop_more, get_or_at, length-append, length-replicate, length-take-le, length-drop, append_assoc}
-use Rattle.fault.specs.Checks.{granted}
+use Rattle.fault.specs.Checks.{is_granted}
 use Rattle.big_endian.specs.Numbers.{bytes_of}
 use Rattle.big_endian.proofs.Laws.{bytes_back, bytes_of_length}
 use Rattle.engine.specs.declared.variants.Variant.{Variant}
 use Rattle.cipher.specs.Mode.{tag_size, tag, sealed_text, opened_text}
 use Rattle.cipher.specs.Calls.{check_answer}
 use Rattle.cipher.proofs.Laws.{sealed_length, tag_length, opened_sealed, right_tag_passes}
-use Rattle.envelope.specs.Letters.{letter, most_cents, amount_field, note_length, note_field, after_note, only_zeros, lawful, amount_offered}
+use Rattle.envelope.specs.Letters.{letter, most_cents, amount_field, note_length, note_field, after_note, all_zero, is_lawful, amount_offered}
 use Rattle.envelope.specs.Heads.{head, lot_of, bidder_of, sequence_of}
-use Rattle.envelope.specs.Envelopes.{envelope_size, head_part, sealed_part, tag_part, enveloped, bid, right_tag, letter_sealed_in}
+use Rattle.envelope.specs.Envelopes.{envelope_size, head_part, sealed_part, tag_part, envelope_of, bid, right_tag, letter_sealed_in}
 use Rattle.envelope.proofs.LetterLaws.{lawful_rest, lawful_length, lawful_amount, lawful_note, lawful_after_note, zeros_replicated, offered, offered_none}
 use Rattle.envelope.proofs.HeadLaws.{number_back, head_length, lot_back, bidder_back, sequence_back}
 
@@ -60,25 +60,25 @@ letter_after_note amount note =
     ∙ ap (drop (length note)) (after_nine amount note)
     ∙ drop_at note (replicate (55 - length note) 0) (length note) refl
 
-all_zero_zeros : (n : ℕ) → only_zeros (replicate n 0) ≡ true
+all_zero_zeros : (n : ℕ) → all_zero (replicate n 0) ≡ true
 all_zero_zeros zero = refl
 all_zero_zeros (suc n) = all_zero_zeros n
 
-pub letter_lawful : (amount : ℕ) (note : List ℕ) → amount ≤ most_cents → length note ≤ 55 → lawful (letter amount note) ≡ true
+pub letter_lawful : (amount : ℕ) (note : List ℕ) → amount ≤ most_cents → length note ≤ 55 → is_lawful (letter amount note) ≡ true
 letter_lawful amount note ha hn =
     let a = letter_amount amount note ha in
     let n = letter_note_length amount note in
     lawful_rest (letter amount note) (letter_length amount note hn) (omega arith) (omega arith)
-    ∙ ap only_zeros (letter_after_note amount note) ∙ all_zero_zeros (55 - length note)
+    ∙ ap all_zero (letter_after_note amount note) ∙ all_zero_zeros (55 - length note)
 
-pub note_field_length : (xs : List ℕ) → lawful xs ≡ true → length (note_field xs) ≡ note_length xs
+pub note_field_length : (xs : List ℕ) → is_lawful xs ≡ true → length (note_field xs) ≡ note_length xs
 note_field_length xs h =
     let l = lawful_length xs h in
     let n = lawful_note xs h in
     length-take-le (note_length xs) (drop 9 xs) (omega (arith, length-drop 9 xs, l, n))
 
 -- A lawful letter is the letter of its amount and its note.
-pub lawful_is_letter : (xs : List ℕ) → AllBelowBase 256 xs → lawful xs ≡ true → xs ≡ letter (amount_field xs) (note_field xs)
+pub lawful_is_letter : (xs : List ℕ) → AllBelowBase 256 xs → is_lawful xs ≡ true → xs ≡ letter (amount_field xs) (note_field xs)
 unfolding letter
 lawful_is_letter xs u h =
     let l = lawful_length xs h in
@@ -101,38 +101,38 @@ amount_in_letter amount note ha hn = offered (letter amount note) (letter_lawful
 
 pub amount_in_le : (xs : List ℕ) → amount_offered xs ≤ most_cents
 amount_in_le xs =
-    ⊎_elim (λ h. let a = lawful_amount xs h in let e = offered xs h in omega arith) (λ h. let e = offered_none xs h in omega arith) (cases_Bool (lawful xs))
+    ⊎_elim (λ h. let a = lawful_amount xs h in let e = offered xs h in omega arith) (λ h. let e = offered_none xs h in omega arith) (cases_Bool (is_lawful xs))
 
 -- Envelopes of any head and letter.
 
-pub enveloped_head : (v : Variant) (key terms h l : List ℕ) → length h ≡ 12 → head_part (enveloped v key terms h l) ≡ h
-unfolding enveloped
+pub enveloped_head : (v : Variant) (key terms h l : List ℕ) → length h ≡ 12 → head_part (envelope_of v key terms h l) ≡ h
+unfolding envelope_of
 enveloped_head v key terms h l lh = take_at h _ 12 lh
 
-enveloped_rest : (v : Variant) (key terms h l : List ℕ) → length h ≡ 12 → drop 12 (enveloped v key terms h l) ≡ sealed_text v key h l ++ tag v key h terms (sealed_text v key h l)
-unfolding enveloped
+enveloped_rest : (v : Variant) (key terms h l : List ℕ) → length h ≡ 12 → drop 12 (envelope_of v key terms h l) ≡ sealed_text v key h l ++ tag v key h terms (sealed_text v key h l)
+unfolding envelope_of
 enveloped_rest v key terms h l lh = drop_at h _ 12 lh
 
-pub enveloped_sealed : (v : Variant) (key terms h l : List ℕ) → length h ≡ 12 → length l ≡ 64 → sealed_part (enveloped v key terms h l) ≡ sealed_text v key h l
+pub enveloped_sealed : (v : Variant) (key terms h l : List ℕ) → length h ≡ 12 → length l ≡ 64 → sealed_part (envelope_of v key terms h l) ≡ sealed_text v key h l
 enveloped_sealed v key terms h l lh ll =
     ap (take 64) (enveloped_rest v key terms h l lh) ∙ take_at (sealed_text v key h l) _ 64 (sealed_length v key h l ∙ ll)
 
-pub enveloped_tag : (v : Variant) (key terms h l : List ℕ) → length h ≡ 12 → length l ≡ 64 → tag_part (enveloped v key terms h l) ≡ tag v key h terms (sealed_text v key h l)
+pub enveloped_tag : (v : Variant) (key terms h l : List ℕ) → length h ≡ 12 → length l ≡ 64 → tag_part (envelope_of v key terms h l) ≡ tag v key h terms (sealed_text v key h l)
 enveloped_tag v key terms h l lh ll =
-    sym (drop-drop 64 12 (enveloped v key terms h l)) ∙ ap (drop 64) (enveloped_rest v key terms h l lh) ∙ drop_at (sealed_text v key h l) _ 64 (sealed_length v key h l ∙ ll)
+    sym (drop-drop 64 12 (envelope_of v key terms h l)) ∙ ap (drop 64) (enveloped_rest v key terms h l lh) ∙ drop_at (sealed_text v key h l) _ 64 (sealed_length v key h l ∙ ll)
 
-pub enveloped_length : (v : Variant) (key terms h l : List ℕ) → length h ≡ 12 → length l ≡ 64 → length (enveloped v key terms h l) ≡ envelope_size v
-unfolding enveloped
+pub enveloped_length : (v : Variant) (key terms h l : List ℕ) → length h ≡ 12 → length l ≡ 64 → length (envelope_of v key terms h l) ≡ envelope_size v
+unfolding envelope_of
 enveloped_length v key terms h l lh ll =
     let s = sealed_text v key h l in
     let t = tag v key h terms s in
     omega (arith, length-append h (s ++ t), length-append s t, sealed_length v key h l, tag_length v key h terms s)
 
-pub enveloped_right : (v : Variant) (key terms h l : List ℕ) → length h ≡ 12 → length l ≡ 64 → right_tag v key terms (enveloped v key terms h l) ≡ tag_part (enveloped v key terms h l)
+pub enveloped_right : (v : Variant) (key terms h l : List ℕ) → length h ≡ 12 → length l ≡ 64 → right_tag v key terms (envelope_of v key terms h l) ≡ tag_part (envelope_of v key terms h l)
 enveloped_right v key terms h l lh ll =
     ap₂ (λ n s. tag v key n terms s) (enveloped_head v key terms h l lh) (enveloped_sealed v key terms h l lh ll) ∙ sym (enveloped_tag v key terms h l lh ll)
 
-pub enveloped_letter : (v : Variant) (key terms h l : List ℕ) → length h ≡ 12 → length l ≡ 64 → letter_sealed_in v key (enveloped v key terms h l) ≡ l
+pub enveloped_letter : (v : Variant) (key terms h l : List ℕ) → length h ≡ 12 → length l ≡ 64 → letter_sealed_in v key (envelope_of v key terms h l) ≡ l
 enveloped_letter v key terms h l lh ll =
     ap₂ (λ n s. opened_text v key n s) (enveloped_head v key terms h l lh) (enveloped_sealed v key terms h l lh ll) ∙ opened_sealed v key h l
 
@@ -156,7 +156,7 @@ head_back e l u =
 -- Bids.
 
 pub bid_is : (v : Variant) (key terms : List ℕ) (lot bidder sequence amount : ℕ) (note : List ℕ)
-    → bid v key terms lot bidder sequence amount note ≡ enveloped v key terms (head lot bidder sequence) (letter amount note)
+    → bid v key terms lot bidder sequence amount note ≡ envelope_of v key terms (head lot bidder sequence) (letter amount note)
 unfolding bid
 bid_is v key terms lot bidder sequence amount note = refl
 
@@ -171,15 +171,15 @@ module _ (v : Variant) (key terms : List ℕ) (lot bidder sequence amount : ℕ)
       ∙ enveloped_head v key terms (head lot bidder sequence) (letter amount note) (head_length lot bidder sequence)
 
   pub bid_lot : lot < 2 ^ 32 → lot_of e ≡ lot
-  unfolding bid enveloped
+  unfolding bid envelope_of
   bid_lot h = lot_back lot bidder sequence _ h
 
   pub bid_bidder : bidder < 2 ^ 32 → bidder_of e ≡ bidder
-  unfolding bid enveloped
+  unfolding bid envelope_of
   bid_bidder h = bidder_back lot bidder sequence _ h
 
   pub bid_sequence : sequence < 2 ^ 32 → sequence_of e ≡ sequence
-  unfolding bid enveloped
+  unfolding bid envelope_of
   bid_sequence h = sequence_back lot bidder sequence _ h
 
   pub bid_sealed : length note ≤ 55 → sealed_part e ≡ sealed_text v key (head lot bidder sequence) (letter amount note)
@@ -201,7 +201,7 @@ module _ (v : Variant) (key terms : List ℕ) (lot bidder sequence amount : ℕ)
   pub bid_tag_length : length note ≤ 55 → length (tag_part e) ≡ tag_size v
   bid_tag_length h = length-drop 76 e ∙ omega (arith, bid_length h)
 
-  pub bid_passes : length key ≡ 16 → length terms ≤ 64 → length note ≤ 55 → granted (check_answer v key (head_part e) terms (sealed_part e) (tag_part e)) ≡ true
+  pub bid_passes : length key ≡ 16 → length terms ≤ 64 → length note ≤ 55 → is_granted (check_answer v key (head_part e) terms (sealed_part e) (tag_part e)) ≡ true
   bid_passes lk lt h =
       let n = letter_length amount note h in
       (right_tag_passes v key (head_part e) terms (sealed_part e) (tag_part e)

@@ -9,10 +9,10 @@ use Rattle.std.proofs.lemmas.List.{get_or-drop, take_rest, drop-drop, set_at, ta
 use Rattle.big_endian.specs.Numbers.{bytes_of}
 use Rattle.big_endian.proofs.Laws.{bytes_of_length}
 use Rattle.cipher.proofs.Bytes.{bytes_given, eight_read}
-use Rattle.envelope.specs.Letters.{letter, most_cents, amount_field, note_length, after_note, only_zeros, lawful, amount_offered}
+use Rattle.envelope.specs.Letters.{letter, most_cents, amount_field, note_length, after_note, all_zero, is_lawful, amount_offered}
 
 -- All bytes are zero, by the library's word.
-pub all_zeros : (xs : List ℕ) → list_all (λ x. x == 0) xs ≡ only_zeros xs
+pub all_zeros : (xs : List ℕ) → list_all (λ x. x == 0) xs ≡ all_zero xs
 all_zeros [] = refl
 all_zeros (x ∷ xs) = ap (λ b. x == 0 && b) (all_zeros xs)
 
@@ -45,24 +45,24 @@ amount_read xs ys n h e r =
     r ∙ eight_read ys (ap length e ∙ length-take-le 8 xs h) ∙ ap (number_from_digits 256) e
 
 -- What each check says of a letter.
-pub unlawful_length : (xs : List ℕ) → (length xs ≡ 64 → ⊥) → false ≡ lawful xs
-unfolding lawful
+pub unlawful_length : (xs : List ℕ) → (length xs ≡ 64 → ⊥) → false ≡ is_lawful xs
+unfolding is_lawful
 unlawful_length xs h = sym (and_left _ _ (ne_eqb (length xs) 64 h))
 
-pub unlawful_amount : (xs : List ℕ) → most_cents < amount_field xs → false ≡ lawful xs
-unfolding lawful
+pub unlawful_amount : (xs : List ℕ) → most_cents < amount_field xs → false ≡ is_lawful xs
+unfolding is_lawful
 unlawful_amount xs h = sym (and_right _ _ (and_left _ _ (lt-leb (amount_field xs) most_cents h)))
 
-pub unlawful_note : (xs : List ℕ) → 55 < note_length xs → false ≡ lawful xs
-unfolding lawful
+pub unlawful_note : (xs : List ℕ) → 55 < note_length xs → false ≡ is_lawful xs
+unfolding is_lawful
 unlawful_note xs h = sym (and_right _ _ (and_right (leb (amount_field xs) most_cents) _ (and_left _ _ (lt-leb (note_length xs) 55 h))))
 
-pub lawful_rest : (xs : List ℕ) → length xs ≡ 64 → amount_field xs ≤ most_cents → note_length xs ≤ 55 → lawful xs ≡ only_zeros (after_note xs)
-unfolding lawful
+pub lawful_rest : (xs : List ℕ) → length xs ≡ 64 → amount_field xs ≤ most_cents → note_length xs ≤ 55 → is_lawful xs ≡ all_zero (after_note xs)
+unfolding is_lawful
 lawful_rest xs l a n =
-    ap (λ b. b && (leb (amount_field xs) most_cents && (leb (note_length xs) 55 && only_zeros (after_note xs)))) (eq-eqb (length xs) 64 l)
-    ∙ ap (λ b. b && (leb (note_length xs) 55 && only_zeros (after_note xs))) (le-leb (amount_field xs) most_cents a)
-    ∙ ap (λ b. b && only_zeros (after_note xs)) (le-leb (note_length xs) 55 n)
+    ap (λ b. b && (leb (amount_field xs) most_cents && (leb (note_length xs) 55 && all_zero (after_note xs)))) (eq-eqb (length xs) 64 l)
+    ∙ ap (λ b. b && (leb (note_length xs) 55 && all_zero (after_note xs))) (le-leb (amount_field xs) most_cents a)
+    ∙ ap (λ b. b && all_zero (after_note xs)) (le-leb (note_length xs) 55 n)
 
 -- The same, where the letter is split into eight bytes and the rest, which has the note's length in front.
 module _ (xs rest : List ℕ) (split : rest ≡ drop 8 xs) where
@@ -72,7 +72,7 @@ module _ (xs rest : List ℕ) (split : rest ≡ drop 8 xs) where
   length_is : get_or rest 0 0 ≡ note_length xs
   length_is = ap (λ ys. get_or ys 0 0) split ∙ get_or-drop 8 xs 0 0
 
-  pub long_note : 55 < get_or rest 0 0 → false ≡ lawful xs
+  pub long_note : 55 < get_or rest 0 0 → false ≡ is_lawful xs
   long_note h = unlawful_note xs (let e = length_is in omega arith)
 
   zeros_are : take (length text - get_or rest 0 0) (drop (get_or rest 0 0) text) ≡ after_note xs
@@ -81,40 +81,40 @@ module _ (xs rest : List ℕ) (split : rest ≡ drop 8 xs) where
       ∙ drop-drop (get_or rest 0 0) 9 xs ∙ ap (λ k. drop (9 + k) xs) length_is
 
   pub lawful_zeros : length xs ≡ 64 → amount_field xs ≤ most_cents → get_or rest 0 0 ≤ 55
-      → only_zeros (take (length text - get_or rest 0 0) (drop (get_or rest 0 0) text)) ≡ lawful xs
-  lawful_zeros l a n = ap only_zeros zeros_are ∙ sym (lawful_rest xs l a (let e = length_is in omega arith))
+      → all_zero (take (length text - get_or rest 0 0) (drop (get_or rest 0 0) text)) ≡ is_lawful xs
+  lawful_zeros l a n = ap all_zero zeros_are ∙ sym (lawful_rest xs l a (let e = length_is in omega arith))
 
 -- A lawful letter has 64 bytes and a lawful amount, which it offers; an unlawful one offers nothing.
-pub lawful_length : (xs : List ℕ) → lawful xs ≡ true → length xs ≡ 64
-unfolding lawful
+pub lawful_length : (xs : List ℕ) → is_lawful xs ≡ true → length xs ≡ 64
+unfolding is_lawful
 lawful_length xs h = eqb-true (length xs) 64 (and_parts _ _ h).0
 
-pub lawful_amount : (xs : List ℕ) → lawful xs ≡ true → amount_field xs ≤ most_cents
-unfolding lawful
+pub lawful_amount : (xs : List ℕ) → is_lawful xs ≡ true → amount_field xs ≤ most_cents
+unfolding is_lawful
 lawful_amount xs h = leb-true (amount_field xs) most_cents (and_parts _ _ (and_parts _ _ h).1).0
 
-pub lawful_note : (xs : List ℕ) → lawful xs ≡ true → note_length xs ≤ 55
-unfolding lawful
+pub lawful_note : (xs : List ℕ) → is_lawful xs ≡ true → note_length xs ≤ 55
+unfolding is_lawful
 lawful_note xs h = leb-true (note_length xs) 55 (and_parts _ _ (and_parts _ _ (and_parts _ _ h).1).1).0
 
-pub lawful_after_note : (xs : List ℕ) → lawful xs ≡ true → only_zeros (after_note xs) ≡ true
-unfolding lawful
+pub lawful_after_note : (xs : List ℕ) → is_lawful xs ≡ true → all_zero (after_note xs) ≡ true
+unfolding is_lawful
 lawful_after_note xs h =
-    let zeros = only_zeros (after_note xs) in
+    let zeros = all_zero (after_note xs) in
     let rest = leb (note_length xs) 55 && zeros in
     (and_parts (leb (note_length xs) 55) zeros (and_parts (leb (amount_field xs) most_cents) rest (and_parts (length xs == 64) (leb (amount_field xs) most_cents && rest) h).1).1).1
 
 -- Bytes that are all zero.
-pub zeros_replicated : (xs : List ℕ) → only_zeros xs ≡ true → xs ≡ replicate (length xs) 0
+pub zeros_replicated : (xs : List ℕ) → all_zero xs ≡ true → xs ≡ replicate (length xs) 0
 zeros_replicated [] h = refl
 zeros_replicated (x ∷ xs) h =
-    let p = and_parts (x == 0) (only_zeros xs) h in
+    let p = and_parts (x == 0) (all_zero xs) h in
     ap₂ ◌∷◌ (eqb-true x 0 p.0) (zeros_replicated xs p.1)
 
-pub offered : (xs : List ℕ) → lawful xs ≡ true → amount_offered xs ≡ amount_field xs
+pub offered : (xs : List ℕ) → is_lawful xs ≡ true → amount_offered xs ≡ amount_field xs
 unfolding amount_offered
-offered xs h = cond-true (lawful xs) (amount_field xs) 0 h
+offered xs h = cond-true (is_lawful xs) (amount_field xs) 0 h
 
-pub offered_none : (xs : List ℕ) → lawful xs ≡ false → amount_offered xs ≡ 0
+pub offered_none : (xs : List ℕ) → is_lawful xs ≡ false → amount_offered xs ≡ 0
 unfolding amount_offered
-offered_none xs h = cond-false (lawful xs) (amount_field xs) 0 h
+offered_none xs h = cond-false (is_lawful xs) (amount_field xs) 0 h

@@ -1,9 +1,9 @@
 pub mod LetterLaws
-pub mod Writing
-pub mod TermsLaws
+mod Writing
+mod TermsLaws
 pub mod HeadLaws
-pub mod BidLaws
+mod BidLaws
 pub mod PenLaws
 pub mod Laws
 pub mod ReadingLaws
-pub mod Whole
+mod Whole

@@ -3,7 +3,7 @@ use Rattle.std.proofs.Common.{◌≡◌, ℕ, zero, suc, ◌+◌, ◌^◌, ◌<�
 use Rattle.std.specs.List.{AllByRecursion}
 use Rattle.std.proofs.ByRecursion.{All-weaker}
 use Rattle.std.proofs.lemmas.Bool.{leb-true, le-leb, lt-leb, ltb-true, lt-ltb, le-ltb}
-use Rattle.fault.specs.Checks.{granted}
+use Rattle.fault.specs.Checks.{is_granted}
 use Rattle.fault.proofs.Checks.{granted_exactly_where_passed}
 use Rattle.envelope.specs.Terms.{bytes_of_terms}
 use Rattle.envelope.specs.Heads.{sequence_of}
@@ -80,12 +80,12 @@ belong (more {p = p} {q = q} {bidder = b} {a = Ok h} {rest = answers} t rest) =
 belong (more {p = p} {q = q} {a = Err f} {rest = answers} t rest) = subst (λ x. AllByRecursion (Of x) (heads_given answers)) t.pen_after (belong rest)
 
 -- When making a pen and taking a head are granted.
-pen_granted : (lot : ℕ) (terms : List ℕ) → ((granted (pen_answer lot terms) ≡ true) ↔ (length terms ≤ 64)) × (64 < length terms → pen_answer lot terms ≡ Err TermsLength)
+pen_granted : (lot : ℕ) (terms : List ℕ) → ((is_granted (pen_answer lot terms) ≡ true) ↔ (length terms ≤ 64)) × (64 < length terms → pen_answer lot terms ≡ Err TermsLength)
 pen_granted lot terms =
     let by_checks = granted_exactly_where_passed ((leb (length terms) 64, TermsLength) ∷ []) (record { lot = lot; terms = terms; given = 0 }) in
     (((λ e. leb-true (length terms) 64 (by_checks.0 e).0), (λ l. by_checks.1 (le-leb (length terms) 64 l, tt))), (λ h. rw (lt-leb (length terms) 64 h)))
 
-taking_granted : (p : Pen) (bidder : ℕ) → ((granted (take_answer p bidder) ≡ true) ↔ (p.given + 1 < 2 ^ 32)) × (2 ^ 32 ≤ p.given + 1 → take_answer p bidder ≡ Err HeadsSpent)
+taking_granted : (p : Pen) (bidder : ℕ) → ((is_granted (take_answer p bidder) ≡ true) ↔ (p.given + 1 < 2 ^ 32)) × (2 ^ 32 ≤ p.given + 1 → take_answer p bidder ≡ Err HeadsSpent)
 taking_granted p bidder =
     let by_checks = granted_exactly_where_passed ((ltb p.given last_sequence, HeadsSpent) ∷ []) (next_head p bidder) in (
       (

@@ -2,11 +2,11 @@
 use Rattle.std.proofs.Common.{◌≡◌, ℕ, ◌+◌, true, false, leb, ◌↔◌, List, [], ◌∷◌, length, ◌==◌, sym, refl, ap, ◌∙◌, ap₂, arith, eq-eqb}
 use Rattle.std.specs.Int.Digits.{AllBelowBase}
 use Rattle.std.proofs.lemmas.Bool.{eqb-true, ne_eqb, leb-true, le-leb, lt-leb}
-use Rattle.fault.specs.Checks.{Check, granted}
+use Rattle.fault.specs.Checks.{Check, is_granted}
 use Rattle.fault.proofs.Checks.{granted_exactly_where_passed}
 use Rattle.engine.specs.declared.variants.Variant.{Variant}
 use Rattle.cipher.specs.Calls.{key_check}
-use Rattle.envelope.specs.Letters.{letter, most_cents, most_note_bytes, amount_field, note_field, lawful}
+use Rattle.envelope.specs.Letters.{letter, most_cents, most_note_bytes, amount_field, note_field, is_lawful}
 use Rattle.envelope.specs.Envelopes.{envelope_size, bid, letter_sealed_in}
 use Rattle.envelope.specs.Calls.{by_cipher, bid_answer}
 use Rattle.envelope.specs.Theorems.{LawfulBid, LawfulSealing, FirstFaultDecides, LawsOfLetters, LawsOfBids, EnvelopeLaws}
@@ -16,12 +16,12 @@ use Rattle.envelope.proofs.LetterLaws.{lawful_amount, lawful_note, unlawful_amou
 use Rattle.envelope.proofs.PenLaws.{pen_laws}
 use Rattle.envelope.proofs.Laws.{letter_length, letter_amount_back, letter_amount, letter_note, letter_lawful, lawful_is_letter, note_bytes, note_field_length, amount_in_letter, amount_in_le, bid_lot, bid_bidder, bid_sequence, bid_length, bid_letter, bid_passes}
 
-above_limit_unlawful : lawful (letter (most_cents + 1) []) ≡ false
+above_limit_unlawful : is_lawful (letter (most_cents + 1) []) ≡ false
 above_limit_unlawful = sym (unlawful_amount (letter (most_cents + 1) []) (omega (arith, letter_amount_back (most_cents + 1) [] (omega arith))))
 
 -- The lawful letters are those of lawful amounts and notes.
 written : (xs : List ℕ) → AllBelowBase 256 xs
-    → (lawful xs ≡ true) ↔ ((amount : ℕ) × (note : List ℕ) × LawfulBid amount note × AllBelowBase 256 note × (xs ≡ letter amount note))
+    → (is_lawful xs ≡ true) ↔ ((amount : ℕ) × (note : List ℕ) × LawfulBid amount note × AllBelowBase 256 note × (xs ≡ letter amount note))
 written xs u = (
   (λ h.
       let n = lawful_note xs h in (
@@ -31,7 +31,7 @@ written xs u = (
         note_bytes xs u,
         lawful_is_letter xs u h,
       )),
-  (λ w. ap lawful w.4 ∙ letter_lawful w.0 w.1 w.2.amount_within w.2.note_within),
+  (λ w. ap is_lawful w.4 ∙ letter_lawful w.0 w.1 w.2.amount_within w.2.note_within),
 )
 
 -- The checks of a bid.
@@ -40,7 +40,7 @@ bid_checks v key amount note place =
     by_cipher (key_check key) ∷ (((length place == envelope_size v), EnvelopeLength)
     ∷ ((leb (length note) most_note_bytes, NoteLength) ∷ ((leb amount most_cents, AmountAboveLimit) ∷ [])))
 
-pub bid_granted : (v : Variant) (key : List ℕ) (amount : ℕ) (note place : List ℕ) → granted (bid_answer v key amount note place) ≡ true → LawfulSealing v key amount note place
+pub bid_granted : (v : Variant) (key : List ℕ) (amount : ℕ) (note place : List ℕ) → is_granted (bid_answer v key amount note place) ≡ true → LawfulSealing v key amount note place
 bid_granted v key amount note place e =
     let p = (granted_exactly_where_passed (bid_checks v key amount note place) tt).0 e in
     record {
@@ -49,7 +49,7 @@ bid_granted v key amount note place e =
       bid_within = record { amount_within = leb-true amount most_cents p.1.1.1.0; note_within = leb-true (length note) 55 p.1.1.0 };
     }
 
-pub grants_bid : (v : Variant) (key : List ℕ) (amount : ℕ) (note place : List ℕ) → LawfulSealing v key amount note place → granted (bid_answer v key amount note place) ≡ true
+pub grants_bid : (v : Variant) (key : List ℕ) (amount : ℕ) (note place : List ℕ) → LawfulSealing v key amount note place → is_granted (bid_answer v key amount note place) ≡ true
 grants_bid v key amount note place l =
     rw (
       eq-eqb (length key) 16 l.key_length,

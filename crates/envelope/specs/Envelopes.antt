@@ -20,12 +20,12 @@ abbrev pub tag_part : List ℕ → List ℕ
 tag_part e = drop 76 e
 
 -- The envelope of a head and a letter under a key and terms.
-unfoldable pub enveloped : Variant → List ℕ → List ℕ → List ℕ → List ℕ → List ℕ
-enveloped v key terms h l = h ++ (sealed_text v key h l ++ tag v key h terms (sealed_text v key h l))
+unfoldable pub envelope_of : Variant → List ℕ → List ℕ → List ℕ → List ℕ → List ℕ
+envelope_of v key terms h l = h ++ (sealed_text v key h l ++ tag v key h terms (sealed_text v key h l))
 
 -- The envelope of a bid.
 unfoldable pub bid : Variant → List ℕ → List ℕ → ℕ → ℕ → ℕ → ℕ → List ℕ → List ℕ
-bid v key terms lot bidder sequence amount note = enveloped v key terms (head lot bidder sequence) (letter amount note)
+bid v key terms lot bidder sequence amount note = envelope_of v key terms (head lot bidder sequence) (letter amount note)
 
 -- The tag that an envelope should have under a key and terms.
 abbrev pub right_tag : Variant → List ℕ → List ℕ → List ℕ → List ℕ

@@ -31,16 +31,16 @@ abbrev pub after_note : List ℕ → List ℕ
 after_note xs = drop (9 + note_length xs) xs
 
 -- Whether all bytes are zero.
-abbrev pub only_zeros : List ℕ → Bool
-only_zeros [] = true
-only_zeros (x ∷ xs) = x == 0 && only_zeros xs
+abbrev pub all_zero : List ℕ → Bool
+all_zero [] = true
+all_zero (x ∷ xs) = x == 0 && all_zero xs
 
 -- A letter is lawful exactly when it has 64 bytes, its amount is at most the limit, its note's length is at most 55, and all bytes after
 -- the note are zero.
-unfoldable pub lawful : List ℕ → Bool
-lawful xs =
-    (length xs == letter_bytes) && (nat_le (amount_field xs) most_cents && (nat_le (note_length xs) most_note_bytes && only_zeros (after_note xs)))
+unfoldable pub is_lawful : List ℕ → Bool
+is_lawful xs =
+    (length xs == letter_bytes) && (nat_le (amount_field xs) most_cents && (nat_le (note_length xs) most_note_bytes && all_zero (after_note xs)))
 
 -- The amount that a letter offers: 0 where it is unlawful. Amount 0 withdraws a bid.
 unfoldable pub amount_offered : List ℕ → ℕ
-amount_offered xs = cond (lawful xs) (amount_field xs) 0
+amount_offered xs = cond (is_lawful xs) (amount_field xs) 0

@@ -1,6 +1,6 @@
 -- Pens: they hand out heads for one lot under its terms, and one counter gives sequences 1, 2, 3 and on for all bidders.
 use Rattle.std.specs.Prelude.{◌≡◌, ℕ, ◌+◌, List, [], ◌∷◌, length, Ok, Err, Result, nat_le, nat_lt}
-use Rattle.fault.specs.Checks.{decided, left}
+use Rattle.fault.specs.Checks.{decision, by_answer}
 use Rattle.envelope.specs.Terms.{most_terms_bytes, bytes_of_terms}
 use Rattle.envelope.specs.declared.heads.Head.{Head}
 use Rattle.envelope.specs.declared.pens.Pen.{Pen}
@@ -22,7 +22,7 @@ pen_state p = record { lot = p.lot; terms = bytes_of_terms p.terms; given = p.gi
 
 -- Making a pen: terms of at most 64 bytes.
 abbrev pub pen_answer : ℕ → List ℕ → Result PenState EnvelopeFault
-pen_answer lot terms = decided ((nat_le (length terms) most_terms_bytes, TermsLength) ∷ []) (record { lot = lot; terms = terms; given = 0 })
+pen_answer lot terms = decision ((nat_le (length terms) most_terms_bytes, TermsLength) ∷ []) (record { lot = lot; terms = terms; given = 0 })
 
 abbrev pub pen_seen : Result Pen EnvelopeFault → Result PenState EnvelopeFault
 pen_seen (Ok p) = Ok (pen_state p)
@@ -37,9 +37,9 @@ next_pen p = record { lot = p.lot; terms = p.terms; given = p.given + 1 }
 
 -- Taking a head: refused once the last sequence is given.
 abbrev pub take_answer : Pen → ℕ → Result Head EnvelopeFault
-take_answer p bidder = decided ((nat_lt p.given last_sequence, HeadsSpent) ∷ []) (next_head p bidder)
+take_answer p bidder = decision ((nat_lt p.given last_sequence, HeadsSpent) ∷ []) (next_head p bidder)
 
 -- What taking a head for a bidder promises of the pen before, the answer and the pen after. A refusal leaves the pen as it was.
 pub record Taken (before : Pen) (bidder : ℕ) (answer : Result Head EnvelopeFault) (after : Pen) : Type 0 where
   pub answers : answer ≡ take_answer before bidder
-  pub pen_after : after ≡ left answer (next_pen before) before
+  pub pen_after : after ≡ by_answer answer (next_pen before) before

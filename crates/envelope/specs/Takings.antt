@@ -8,8 +8,8 @@ use Rattle.envelope.specs.declared.pens.Pen.{Pen}
 use Rattle.envelope.specs.declared.faults.EnvelopeFault.{EnvelopeFault}
 
 -- A pen just made for a lot and terms.
-abbrev pub Fresh : ℕ → List ℕ → Pen → Type 0
-Fresh lot terms p = pen_state p ≡ record { lot = lot; terms = terms; given = 0 }
+abbrev pub IsNewPen : ℕ → List ℕ → Pen → Type 0
+IsNewPen lot terms p = pen_state p ≡ record { lot = lot; terms = terms; given = 0 }
 
 -- Takings from a pen, each from what the one before left, with their answers in order, and the pen that is left at the end.
 pub data Takings : Pen → List (Result Head EnvelopeFault) → Pen → Type 0 where

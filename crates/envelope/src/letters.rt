@@ -1,6 +1,6 @@
 // Letters: what a bidder writes, in 64 bytes whatever it says.
 ghost use Rattle.std.specs.Prelude.{◌≡◌, ◌≤◌, length};
-ghost use Rattle.envelope.specs.Letters.{letter as letter_for, lawful, amount_offered, only_zeros};
+ghost use Rattle.envelope.specs.Letters.{letter as letter_for, is_lawful, amount_offered, all_zero};
 
 /// The bytes of a letter.
 pub const LETTER_BYTES: usize = 64;
@@ -39,7 +39,7 @@ pub fn amount_in(letter: &[u8]) -> u64
 
 /// Whether a letter is lawful: all of its bytes are looked at, and not its note alone.
 pub fn is_lawful(letter: &[u8]) -> bool
-    ensures { result ≡ lawful letter.now }
+    ensures { result ≡ is_lawful letter.now }
 {
     let Some((amount, rest)) = letter.split_first_chunk() else {
         return false;
@@ -56,7 +56,7 @@ pub fn is_lawful(letter: &[u8]) -> bool
 
 // Whether all bytes are zero.
 fn all_zero(bytes: &[u8]) -> bool
-    ensures { result ≡ only_zeros bytes.now }
+    ensures { result ≡ all_zero bytes.now }
 {
     bytes.iter().all(|b| *b == 0)
 }

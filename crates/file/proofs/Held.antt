@@ -1,7 +1,7 @@
 -- The sale of a file held in a room: what is known after each step.
 use Rattle.std.proofs.Common.{◌≡◌, List, [], ◌∷◌, ◌++◌, map, Ok, codes, Result, sym, refl, ap, ◌∙◌, subst}
 use Rattle.std.proofs.lemmas.List.{append_assoc, append-nil}
-use Rattle.fault.specs.Checks.{decided}
+use Rattle.fault.specs.Checks.{decision}
 use Rattle.engine.specs.declared.variants.Variant.{Variant}
 use Rattle.room.proofs.Histories.{runs_on}
 use Rattle.room.specs.Calls.{Call, Answer, Lodging, Closing, Met, answer_to, room_after, page_of_room}
@@ -29,7 +29,7 @@ pub through_by : {v w : Variant} {out out' : Bytes} {s s' : RoomState} {es es' :
 through_by {out = out} {out' = out'} {s = s} {s' = s'} {es = es} {es' = es'} e g = subst (λ z. GoesThrough z out s es out' s' es') e g
 
 -- making a room of a sale within its limits is granted
-pub made_granted : (s : Sale) → KeepsLimits s → ◌≡◌ {A = Result (Unit {0}) RoomFault} (decided (making_checks s.terms s.register) tt) (Ok tt)
+pub made_granted : (s : Sale) → KeepsLimits s → ◌≡◌ {A = Result (Unit {0}) RoomFault} (decision (making_checks s.terms s.register) tt) (Ok tt)
 made_granted s k = let l = is_lawful s k in rw (l.0, l.1) refl
 
 -- the lodgings of envelopes

@@ -1,7 +1,7 @@
 -- The page of a file is that of each room in which its sale was held, and two files of one sale with the same envelopes have one page.
 use Rattle.std.proofs.Common.{◌≡◌, ◌↔◌, List, [], ◌∷◌, ◌++◌, map, Ok, Err, Result, ℕ, sym, refl, ap, ◌∙◌, subst, ap₂, arith}
 use mathlib.Core.Path.{fun_ext}
-use Rattle.fault.specs.Checks.{decided, left}
+use Rattle.fault.specs.Checks.{decision, by_answer}
 use Rattle.engine.specs.declared.variants.Variant.{Variant}
 use Rattle.room.specs.Calls.{Call, Lodging, Closing, Answer, is_open, answer_to, room_after, holding, closed, page_of_room}
 use Rattle.room.specs.Rooms.{Holding, Contents as Room, sale_of, kept_for, contents}
@@ -62,7 +62,7 @@ held_leaves c x h =
     runs_leave x.variant x.runs ∙ ap₂ after_all (x.made.leaves x.variant ∙ ap room_of h.made_of) h.met ∙ calls_leave (room_of c.sale) c.envelopes
 
 -- Lodging keeps the phase, and closing ends an open room: so a room in which the sale was held is closed.
-phase_left : (a : Answer) (hs : List Holding) (r : Room) → (left a (holding hs r) r).phase ≡ r.phase
+phase_left : (a : Answer) (hs : List Holding) (r : Room) → (by_answer a (holding hs r) r).phase ≡ r.phase
 phase_left (Ok n) hs r = refl
 phase_left (Err f) hs r = refl
 
@@ -72,7 +72,7 @@ lodged_phase r [] = refl
 lodged_phase r (e ∷ es) = lodged_phase (room_after r (Lodging e.envelope)) es ∙ phase_left (answer_to r (Lodging e.envelope)) _ r
 
 closes : (r : Room) → r.phase ≡ PhaseOpen → (room_after r Closing).phase ≡ PhaseClosed
-closes r is = ap (λ p. (left (decided {X = ℕ} {F = RoomFault} ((is_open p, Closed) ∷ []) 0) (closed r) r).phase) is
+closes r is = ap (λ p. (by_answer (decision {X = ℕ} {F = RoomFault} ((is_open p, Closed) ∷ []) 0) (closed r) r).phase) is
 
 pub held_closed : (c : Contents) (x : History) → HeldIn c x → IsClosed x
 held_closed c x h = ap (λ r. r.phase) (held_leaves c x h) ∙ closes _ (lodged_phase (room_of c.sale) c.envelopes)

@@ -3,7 +3,7 @@ use Rattle.std.proofs.Common.{◌≡◌, ℕ, suc, ◌≤◌, Bool, true, false,
 use mathlib.Core.Path.{fun_ext}
 use Rattle.std.specs.List.{AllByRecursion}
 use Rattle.std.proofs.lemmas.Bool.{eqb-true, eqb-false, eq-eqb, ne_eqb, both_ways}
-use Rattle.fault.specs.Checks.{left}
+use Rattle.fault.specs.Checks.{by_answer}
 use Rattle.engine.specs.declared.variants.Variant.{Variant}
 use Rattle.envelope.specs.Heads.{bidder_of}
 use Rattle.room.specs.Sales.{Bytes, Sale, registered, key_of}
@@ -123,7 +123,7 @@ module _ (v : Variant) (lot : ℕ) (terms : Bytes) (hs : List Holding) where
   same_answer Closed (Opening o) r = ap (λ p. opened o (length p)) (page_is (room_in Closed) r)
 
   taken : (e : Bytes) (a : Answer) → verdict its (kept_for hs) e ≡ a
-      → (stage_of (left a (holding (accepted e hs) (room_in Open)) (room_in Open)) ≡ Taking (settled a (kept_for hs) e)) × (sale_of (left a (holding (accepted e hs) (room_in Open)) (room_in Open)) ≡ its)
+      → (stage_of (by_answer a (holding (accepted e hs) (room_in Open)) (room_in Open)) ≡ Taking (settled a (kept_for hs) e)) × (sale_of (by_answer a (holding (accepted e hs) (room_in Open)) (room_in Open)) ≡ its)
   taken e (Ok n) h = (
     ap Taking (fun_ext (λ b. accepted_renews e hs b (granted its (kept_for hs) e n h).0.known)),
     ap (λ xs. record { variant = v; lot = lot; terms = terms; register = xs }) (accepted_entries e hs),

@@ -1,6 +1,6 @@
 -- Facts about answers and about checks in order.
 use Rattle.std.proofs.Common.{◌≡◌, ℕ, Bool, true, false, cond, List, [], ◌∷◌, ◌++◌, Ok, Err, Result, sym, ap, arith}
-use Rattle.fault.specs.Checks.{Check, decided}
+use Rattle.fault.specs.Checks.{Check, decision}
 
 -- What a grant answers, and what a refusal tells.
 abbrev pub value : {X F : Type 0} → X → Result X F → X
@@ -25,10 +25,10 @@ pub same_reason : {X F : Type 0} (f g : F) → ◌≡◌ {A = Result X F} (Err f
 same_reason f g h = ap (reason f) h
 
 -- Where the first checks refuse, all of them do.
-pub decided_front : {X Y F : Type 0} (cs ds : List (Check F)) (x : X) (y : Y) (f : F) → ◌≡◌ {A = Result X F} (Err f) (decided cs x) → ◌≡◌ {A = Result Y F} (decided (cs ++ ds) y) (Err f)
+pub decided_front : {X Y F : Type 0} (cs ds : List (Check F)) (x : X) (y : Y) (f : F) → ◌≡◌ {A = Result X F} (Err f) (decision cs x) → ◌≡◌ {A = Result Y F} (decision (cs ++ ds) y) (Err f)
 decided_front [] ds x y f h = absurd (not_both x f (sym h))
 decided_front {X} {Y} {F} (c ∷ cs) ds x y f h = go c.0 (decided_front cs ds x y f) h
   where
-    go : (t : Bool) → (◌≡◌ {A = Result X F} (Err f) (decided cs x) → ◌≡◌ {A = Result Y F} (decided (cs ++ ds) y) (Err f)) → ◌≡◌ {A = Result X F} (Err f) (cond t (decided cs x) (Err c.1)) → ◌≡◌ {A = Result Y F} (cond t (decided (cs ++ ds) y) (Err c.1)) (Err f)
+    go : (t : Bool) → (◌≡◌ {A = Result X F} (Err f) (decision cs x) → ◌≡◌ {A = Result Y F} (decision (cs ++ ds) y) (Err f)) → ◌≡◌ {A = Result X F} (Err f) (cond t (decision cs x) (Err c.1)) → ◌≡◌ {A = Result Y F} (cond t (decision (cs ++ ds) y) (Err c.1)) (Err f)
     go true ih h = ih h
     go false ih h = ap (λ g. Err g) (sym (same_reason f c.1 h))

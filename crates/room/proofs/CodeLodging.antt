@@ -5,7 +5,7 @@ use Rattle.std.specs.Str.{bytes_eq}
 use Rattle.std.proofs.lemmas.Bool.{eq-eqb, eqb-true, lt-ltb, le-ltb}
 use Rattle.std.proofs.lemmas.List.{get_or-take, length-take, length-drop, set-get_or}
 use Rattle.std.proofs.Math.Seq.{take-set-lt}
-use Rattle.fault.specs.Checks.{Check, decided, left}
+use Rattle.fault.specs.Checks.{Check, decision, by_answer}
 use Rattle.engine.specs.declared.variants.Variant.{Variant}
 use Rattle.cipher.specs.Mode.{tag_size}
 use Rattle.cipher.specs.declared.faults.CipherFault.TheVariants.{WrongTag as CipherWrongTag}
@@ -36,7 +36,7 @@ pub record Lodged (v : Variant) (lot : ℕ) (terms : Bytes) (before : List Slot)
   pub leaves : room_of v lot terms Open after ≡ room_after (room_of v lot terms Open before) (Lodging e)
 
 -- What is known once the bid is read: of the envelope, and of the bid.
-read_passed : (v : Variant) (lot : ℕ) (e : Bytes) (b : BidParts) → ◌≡◌ {A = Result BidParts RoomFault} (Ok b) (decided (head_checks v lot e) (bid_of e))
+read_passed : (v : Variant) (lot : ℕ) (e : Bytes) (b : BidParts) → ◌≡◌ {A = Result BidParts RoomFault} (Ok b) (decision (head_checks v lot e) (bid_of e))
     → (length e ≡ envelope_size v) × (lot_of e ≡ lot) × (b ≡ bid_of e)
 read_passed v lot e b read = go (eqb (length e) (envelope_size v)) refl (eqb (lot_of e) lot) refl read
   where
@@ -47,11 +47,11 @@ read_passed v lot e b read = go (eqb (length e) (envelope_size v)) refl (eqb (lo
     go true et false eu q = absurd (not_both b OtherLot q)
     go false et u eu q = absurd (not_both b EnvelopeLength q)
 
-pub head_read : (v : Variant) (lot : ℕ) (e : Bytes) (b : BidParts) → ◌≡◌ {A = Result BidParts RoomFault} (Ok b) (decided (head_checks v lot e) (bid_of e))
+pub head_read : (v : Variant) (lot : ℕ) (e : Bytes) (b : BidParts) → ◌≡◌ {A = Result BidParts RoomFault} (Ok b) (decision (head_checks v lot e) (bid_of e))
     → (length e ≡ envelope_size v) × (lot_of e ≡ lot) × (b.head ≡ fields_of e)
 head_read v lot e b read = let p = read_passed v lot e b read in (p.0, p.1, ap (λ z. z.head) p.2)
 
-pub tag_read : (v : Variant) (lot : ℕ) (e : Bytes) (b : BidParts) → ◌≡◌ {A = Result BidParts RoomFault} (Ok b) (decided (head_checks v lot e) (bid_of e)) → length b.tag ≡ tag_size v
+pub tag_read : (v : Variant) (lot : ℕ) (e : Bytes) (b : BidParts) → ◌≡◌ {A = Result BidParts RoomFault} (Ok b) (decision (head_checks v lot e) (bid_of e)) → length b.tag ≡ tag_size v
 tag_read v lot e b read = let p = read_passed v lot e b read in ap (λ z. length z.tag) p.2 ∙ length-drop 76 e ∙ omega (arith, p.0)
 
 -- What is known on the way, in the program's order.
@@ -59,7 +59,7 @@ module _ (v : Variant) (lot : ℕ) (terms : Bytes) (xs : List Slot) (e : Bytes) 
   abbrev before : Contents
   before = room_of v lot terms Open xs
 
-  refused : (f : RoomFault) → ◌≡◌ {A = Answer} (decided (lodging_checks before e) (sequence_of e)) (Err f) → Lodged v lot terms xs e (Err f) xs
+  refused : (f : RoomFault) → ◌≡◌ {A = Answer} (decision (lodging_checks before e) (sequence_of e)) (Err f) → Lodged v lot terms xs e (Err f) xs
   refused f h = record { answers = sym h; leaves = rw h }
 
   abbrev later_checks : List (Check RoomFault)
@@ -67,7 +67,7 @@ module _ (v : Variant) (lot : ℕ) (terms : Bytes) (xs : List Slot) (e : Bytes) 
       (registered (register_of before) (bidder_of e), UnknownBidder) ∷ ((ltb (sequence_in (kept_for before.holdings (bidder_of e))) (sequence_of e), SequenceNotAbove)
       ∷ ((bytes_eq (tag_part e) (tag_due (sale_of before) e), WrongTag (bidder_of e) (sequence_of e) CipherWrongTag) ∷ []))
 
-  pub way_head : (f : RoomFault) → ◌≡◌ {A = Result BidParts RoomFault} (Err f) (decided (head_checks v lot e) (bid_of e)) → Lodged v lot terms xs e (Err f) xs
+  pub way_head : (f : RoomFault) → ◌≡◌ {A = Result BidParts RoomFault} (Err f) (decision (head_checks v lot e) (bid_of e)) → Lodged v lot terms xs e (Err f) xs
   unfolding lodging_checks
   way_head f h = refused f (decided_front (head_checks v lot e) later_checks (bid_of e) (sequence_of e) f h)
 
@@ -78,7 +78,7 @@ module _ (v : Variant) (lot : ℕ) (terms : Bytes) (xs : List Slot) (e : Bytes) 
     its_sequence : head.sequence ≡ sequence_of e
     its_sequence = ap (λ h. h.sequence) read.2
 
-    fails_known : registered (register_of before) (bidder_of e) ≡ false → ◌≡◌ {A = Answer} (decided (lodging_checks before e) (sequence_of e)) (Err UnknownBidder)
+    fails_known : registered (register_of before) (bidder_of e) ≡ false → ◌≡◌ {A = Answer} (decision (lodging_checks before e) (sequence_of e)) (Err UnknownBidder)
     unfolding lodging_checks
     fails_known h = rw (eq-eqb _ _ read.0, eq-eqb _ _ read.1, h)
 
@@ -104,7 +104,7 @@ module _ (v : Variant) (lot : ℕ) (terms : Bytes) (xs : List Slot) (e : Bytes) 
       at_last : sequence_in (kept_for before.holdings (bidder_of e)) ≡ (get_or xs i no_slot).sequence
       at_last = ap sequence_in (placed v lot no_slot xs i (bidder_of e) found.0 at_here at_first).2 ∙ last_is v lot (get_or xs i no_slot) small
 
-      fails_stale : sequence_of e ≤ sequence_in (kept_for before.holdings (bidder_of e)) → ◌≡◌ {A = Answer} (decided (lodging_checks before e) (sequence_of e)) (Err SequenceNotAbove)
+      fails_stale : sequence_of e ≤ sequence_in (kept_for before.holdings (bidder_of e)) → ◌≡◌ {A = Answer} (decision (lodging_checks before e) (sequence_of e)) (Err SequenceNotAbove)
       unfolding lodging_checks
       fails_stale h = rw (eq-eqb _ _ read.0, eq-eqb _ _ read.1, at_known, le-ltb _ _ h)
 
@@ -118,11 +118,11 @@ module _ (v : Variant) (lot : ℕ) (terms : Bytes) (xs : List Slot) (e : Bytes) 
         at_right : bytes_eq (tag_part e) (tag_due (sale_of before) e) ≡ bytes_eq (tag_part e) (right_tag v key terms e)
         at_right = ap (λ k. bytes_eq (tag_part e) (right_tag v k terms e)) at_key
 
-        fails_tag : bytes_eq (tag_part e) (right_tag v key terms e) ≡ false → ◌≡◌ {A = Answer} (decided (lodging_checks before e) (sequence_of e)) (Err (WrongTag (bidder_of e) (sequence_of e) CipherWrongTag))
+        fails_tag : bytes_eq (tag_part e) (right_tag v key terms e) ≡ false → ◌≡◌ {A = Answer} (decision (lodging_checks before e) (sequence_of e)) (Err (WrongTag (bidder_of e) (sequence_of e) CipherWrongTag))
         unfolding lodging_checks
         fails_tag h = rw (eq-eqb _ _ read.0, eq-eqb _ _ read.1, at_known, lt-ltb _ _ at_up, at_right ∙ h)
 
-        none_fails : bytes_eq (tag_part e) (right_tag v key terms e) ≡ true → ◌≡◌ {A = Answer} (decided (lodging_checks before e) (sequence_of e)) (Ok (sequence_of e))
+        none_fails : bytes_eq (tag_part e) (right_tag v key terms e) ≡ true → ◌≡◌ {A = Answer} (decision (lodging_checks before e) (sequence_of e)) (Ok (sequence_of e))
         unfolding lodging_checks
         none_fails h = rw (eq-eqb _ _ read.0, eq-eqb _ _ read.1, at_known, lt-ltb _ _ at_up, at_right ∙ h)
 
@@ -141,18 +141,18 @@ module _ (v : Variant) (lot : ℕ) (terms : Bytes) (xs : List Slot) (e : Bytes) 
 
         -- By the test of the tag.
         by_tag : AllBelowBase 256 e → (t : Bool) → bytes_eq (tag_part e) (right_tag v key terms e) ≡ t → (a : Answer) (y : Slot)
-            → a ≡ decided ((t, WrongTag head.bidder head.sequence CipherWrongTag) ∷ []) head.sequence → y ≡ left a (filled (get_or xs i no_slot) head.sequence e) (get_or xs i no_slot) → Lodged v lot terms xs e a (set xs i y)
+            → a ≡ decision ((t, WrongTag head.bidder head.sequence CipherWrongTag) ∷ []) head.sequence → y ≡ by_answer a (filled (get_or xs i no_slot) head.sequence e) (get_or xs i no_slot) → Lodged v lot terms xs e a (set xs i y)
         by_tag under true q a y h k =
-            let g : y ≡ filled (get_or xs i no_slot) head.sequence e = k ∙ ap (λ z. left z (filled (get_or xs i no_slot) head.sequence e) (get_or xs i no_slot)) h in
+            let g : y ≡ filled (get_or xs i no_slot) head.sequence e = k ∙ ap (λ z. by_answer z (filled (get_or xs i no_slot) head.sequence e) (get_or xs i no_slot)) h in
             rw (h, g) (way_granted under q)
         by_tag under false q a y h k =
-            let g : y ≡ get_or xs i no_slot = k ∙ ap (λ z. left z (filled (get_or xs i no_slot) head.sequence e) (get_or xs i no_slot)) h in
+            let g : y ≡ get_or xs i no_slot = k ∙ ap (λ z. by_answer z (filled (get_or xs i no_slot) head.sequence e) (get_or xs i no_slot)) h in
             let u : set xs i y ≡ xs = ap (set xs i) g ∙ set-get_or xs i no_slot in
             rw (h, u) (way_tag q)
 
         pub way_kept : AllBelowBase 256 e → (a : Answer) (y : Slot)
-            → a ≡ decided (tag_checks v key terms head e) head.sequence
-            → y ≡ left a (filled (get_or xs i no_slot) head.sequence e) (get_or xs i no_slot) → Lodged v lot terms xs e a (set xs i y)
+            → a ≡ decision (tag_checks v key terms head e) head.sequence
+            → y ≡ by_answer a (filled (get_or xs i no_slot) head.sequence e) (get_or xs i no_slot) → Lodged v lot terms xs e a (set xs i y)
         way_kept under = by_tag under (bytes_eq (tag_part e) (right_tag v key terms e)) refl
 
 -- A lodging upon a room, by its phase.
@@ -211,7 +211,7 @@ module _ (v : Variant) (r t : RoomState) (e : Bytes) (head : HeadFields) (i : �
   first_slot k l q =
       found.2 k no_slot l (ap (λ x. x.bidder) (get_or-take r.count r.slots k no_slot (omega (arith, inside))) ∙ q ∙ sym (ap (λ h. h.bidder) read.2))
 
-  filled_here : (a : Answer) (y : Slot) → y ≡ left a (filled (get_or r.slots i no_slot) head.sequence e) (get_or r.slots i no_slot)
+  filled_here : (a : Answer) (y : Slot) → y ≡ by_answer a (filled (get_or r.slots i no_slot) head.sequence e) (get_or r.slots i no_slot)
       → with_slots r (set r.slots i y) ≡ place_after (plain_fields r) (Lodging e) a
   filled_here (Ok n) y h =
       let long = length-take r.count r.slots in
@@ -226,28 +226,28 @@ module _ (v : Variant) (r t : RoomState) (e : Bytes) (head : HeadFields) (i : �
       met_open v r t ss _ e _ o is (ap (take r.count) back) (ap (with_slots r) back) (way_stale v r.lot (take r.terms_bytes r.terms) (take r.count r.slots) e head read i found small_here (omega arith))
 
   met_kept : (a : Answer) (y : Slot) → plain_fields t ≡ with_slots r (set ss i y) → (get_or r.slots i no_slot).sequence < head.sequence → AllBelowBase 256 e
-      → a ≡ decided (tag_checks v (get_or ss i no_slot).key (take r.terms_bytes r.terms) head e) head.sequence
-      → y ≡ left a (filled (get_or ss i no_slot) head.sequence e) (get_or ss i no_slot) → Met v r (Lodging e) a t
+      → a ≡ decision (tag_checks v (get_or ss i no_slot).key (take r.terms_bytes r.terms) head e) head.sequence
+      → y ≡ by_answer a (filled (get_or ss i no_slot) head.sequence e) (get_or ss i no_slot) → Met v r (Lodging e) a t
   met_kept a y is high under ha hy =
       let q = ap (λ x. x.sequence) here in
       let there : get_or ss i no_slot ≡ get_or (take r.count r.slots) i no_slot = ap (λ z. get_or z i no_slot) back ∙ sym here in
       met_open v r t (set ss i y) _ e a o is (ap (λ z. take r.count (set z i y)) back ∙ take-set-lt r.count r.slots i y inside)
-      (ap (λ zs. with_slots r (set zs i y)) back ∙ filled_here a y (hy ∙ ap (λ zs. left a (filled (get_or zs i no_slot) head.sequence e) (get_or zs i no_slot)) back))
+      (ap (λ zs. with_slots r (set zs i y)) back ∙ filled_here a y (hy ∙ ap (λ zs. by_answer a (filled (get_or zs i no_slot) head.sequence e) (get_or zs i no_slot)) back))
       (way_kept v r.lot (take r.terms_bytes r.terms) (take r.count r.slots) e head read i found small_here (omega arith) under a y
-      (ha ∙ ap (λ x. decided (tag_checks v x.key (take r.terms_bytes r.terms) head e) head.sequence) there) (hy ∙ ap (λ x. left a (filled x head.sequence e) x) there))
+      (ha ∙ ap (λ x. decision (tag_checks v x.key (take r.terms_bytes r.terms) head e) head.sequence) there) (hy ∙ ap (λ x. by_answer a (filled x head.sequence e) x) there))
 
 -- The same of the bid that was read of the envelope.
 pub met_bid : (v : Variant) (r t : RoomState) (e : Bytes) (b : BidParts) (i : ℕ) (ss : List Slot) → ◌≡◌ {A = Result (Unit {0}) RoomFault} (Ok tt) (admitted r.phase Lodge)
-    → ◌≡◌ {A = Result BidParts RoomFault} (Ok b) (decided (head_checks v r.lot e) (bid_of e)) → IsFirst (take r.count r.slots) b.head.bidder i → ss ≡ r.slots
+    → ◌≡◌ {A = Result BidParts RoomFault} (Ok b) (decision (head_checks v r.lot e) (bid_of e)) → IsFirst (take r.count r.slots) b.head.bidder i → ss ≡ r.slots
     → (get_or r.slots i no_slot).sequence < 2 ^ 32 → (a : Answer) (y : Slot) → plain_fields t ≡ with_slots r (set ss i y) → (get_or r.slots i no_slot).sequence < b.head.sequence
-    → AllBelowBase 256 e → a ≡ decided (bid_checks v (get_or ss i no_slot).key (take r.terms_bytes r.terms) b) b.head.sequence
-    → y ≡ left a (filled_by b (get_or ss i no_slot)) (get_or ss i no_slot) → Met v r (Lodging e) a t
+    → AllBelowBase 256 e → a ≡ decision (bid_checks v (get_or ss i no_slot).key (take r.terms_bytes r.terms) b) b.head.sequence
+    → y ≡ by_answer a (filled_by b (get_or ss i no_slot)) (get_or ss i no_slot) → Met v r (Lodging e) a t
 met_bid v r t e b i ss o read found back small a y is high under ha hy =
     let p = read_passed v r.lot e b read in
     let x = get_or ss i no_slot in
     met_kept v r t e b.head i ss o (head_read v r.lot e b read) found back small a y is high under
-    (ha ∙ ap (λ cs. decided cs b.head.sequence) (checks_of_bid e b p.2 v x.key (take r.terms_bytes r.terms) (omega (arith, p.0)) under))
-    (hy ∙ ap (λ z. left a z x) (filled_by_bid e b p.2 x))
+    (ha ∙ ap (λ cs. decision cs b.head.sequence) (checks_of_bid e b p.2 v x.key (take r.terms_bytes r.terms) (omega (arith, p.0)) under))
+    (hy ∙ ap (λ z. by_answer a z x) (filled_by_bid e b p.2 x))
 
 -- Asking leaves the room as it is, and answers the last accepted sequence.
 module _ (v : Variant) (r : RoomState) (b : ℕ) where

@@ -2,7 +2,7 @@
 use Rattle.std.proofs.Common.{◌≡◌, ℕ, ◌≤◌, Bool, true, false, cond, eqb, [], ◌∷◌, length, Some, None, Ok, Err, Option, Result, sym, refl, ap, ◌∙◌, arith}
 use Rattle.std.specs.Int.Digits.{AllBelowBase}
 use Rattle.std.specs.Str.{bytes_eq}
-use Rattle.fault.specs.Checks.{decided}
+use Rattle.fault.specs.Checks.{decision}
 use Rattle.engine.specs.declared.variants.Variant.{Variant}
 use Rattle.cipher.specs.Mode.{tag}
 use Rattle.cipher.specs.declared.faults.CipherFault.TheVariants.{WrongTag as CipherWrongTag}
@@ -22,7 +22,7 @@ use Rattle.room.specs.declared.slots.Slot.{Slot}
 
 -- Where no bid is read, the length is refused.
 pub none_read : (v : Variant) (lot : ℕ) (e : Bytes) (o : Option SealedBid) → sealed_bid_seen o ≡ bid_in v e → o ≡ None
-    → ◌≡◌ {A = Result BidParts RoomFault} (Err EnvelopeLength) (decided (head_checks v lot e) (bid_of e))
+    → ◌≡◌ {A = Result BidParts RoomFault} (Err EnvelopeLength) (decision (head_checks v lot e) (bid_of e))
 none_read v lot e o h none = go (eqb (length e) (envelope_size v)) refl (ap sealed_bid_seen (sym none) ∙ h)
   where
     go : (t : Bool) → eqb (length e) (envelope_size v) ≡ t → ◌≡◌ {A = Option BidParts} None (cond t (Some (bid_of e)) None)

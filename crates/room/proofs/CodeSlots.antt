@@ -4,7 +4,7 @@ use Rattle.std.specs.Int.Digits.{AllBelowBase}
 use Rattle.std.specs.List.Sorted.{IsStrictlyIncreasing}
 use Rattle.std.proofs.lemmas.Bool.{ne_eqb, eq-eqb, eqb-true}
 use Rattle.std.proofs.lemmas.List.{take_at, drop-drop, take-append-drop, length-drop, map-set, set-get_or, take-map}
-use Rattle.fault.specs.Checks.{left}
+use Rattle.fault.specs.Checks.{by_answer}
 use Rattle.engine.specs.declared.variants.Variant.{Variant}
 use Rattle.cipher.specs.Mode.{tag_size}
 use Rattle.envelope.specs.Heads.{head, lot_of, bidder_of, sequence_of}
@@ -103,6 +103,6 @@ module _ (n i : ℕ) (y : Slot) (xs : List Slot) (same : y.bidder ≡ (get_or xs
   still_rise = subst IsStrictlyIncreasing (sym (take-map bidder n xs) ∙ ap (take n) (sym same_bidders) ∙ take-map bidder n (set xs i y))
 
 -- Whether a bid is kept in a slot or not, its bidder is the same.
-pub same_bidder : {F : Type 0} (a : Result ℕ F) (x y : Slot) (b : BidParts) → y ≡ left a (filled_by b x) x → y.bidder ≡ x.bidder
+pub same_bidder : {F : Type 0} (a : Result ℕ F) (x y : Slot) (b : BidParts) → y ≡ by_answer a (filled_by b x) x → y.bidder ≡ x.bidder
 same_bidder (Ok m) x y b h = ap (λ z. z.bidder) h
 same_bidder (Err f) x y b h = ap (λ z. z.bidder) h

@@ -4,7 +4,7 @@ use Rattle.std.specs.Int.Digits.{number_from_digits, AllBelowBase}
 use Rattle.std.specs.Result.{is_ok}
 use Rattle.std.specs.Str.{bytes_eq}
 use Rattle.std.proofs.lemmas.Bool.{eq-eqb, true≢false}
-use Rattle.fault.specs.Checks.{left}
+use Rattle.fault.specs.Checks.{by_answer}
 use Rattle.engine.specs.declared.variants.Variant.{Variant}
 use Rattle.cipher.specs.Mode.{tag, opened_text}
 use Rattle.cipher.specs.Calls.{CheckedText, check_answer, open_answer, text_of_checked}
@@ -24,7 +24,7 @@ module _ (t : CheckedText) (out : Bytes) (long : length out ≡ length t.sealed)
   open_granted (Ok u) h = refl
   open_granted (Err e) h = absurd (not_both tt e.0 (sym (h ∙ ap (λ b. cond b (Ok tt) (Err OutputLength)) (eq-eqb _ _ long))))
 
-  pub open_writes : (r : Result (Unit {0}) (CipherFault × Checked)) → open_seen r ≡ open_answer t out → left r (text_of_checked t) out ≡ text_of_checked t
+  pub open_writes : (r : Result (Unit {0}) (CipherFault × Checked)) → open_seen r ≡ open_answer t out → by_answer r (text_of_checked t) out ≡ text_of_checked t
   open_writes (Ok u) h = refl
   open_writes (Err e) h = absurd (true≢false (sym (open_granted (Err e) h)))
 

@@ -4,7 +4,7 @@ use Rattle.std.specs.List.{AllByRecursion}
 use Rattle.std.specs.List.Sorted.{IsStrictlyIncreasing}
 use Rattle.std.proofs.lemmas.List.{get_or-take}
 use Rattle.std.proofs.Math.Seq.{take-set-lt}
-use Rattle.fault.specs.Checks.{left}
+use Rattle.fault.specs.Checks.{by_answer}
 use Rattle.engine.specs.declared.variants.Variant.{Variant}
 use Rattle.envelope.specs.Heads.{bidder_of, sequence_of}
 use Rattle.room.specs.Sales.{Bytes, Genuine}
@@ -125,7 +125,7 @@ module _ (v : Variant) where
       leaves =
           ap (λ ss. holding (held ss) (contents v before)) (take-set-lt 4 (slots w x y z) i slot l)
           ∙ ap (λ hs. holding hs (contents v before)) (put_at v 17 no_slot e xs i slot l here first keeps)
-          ∙ sym (ap (λ a. left a (holding (accepted e (held xs)) (contents v before)) (contents v before)) granted);
+          ∙ sym (ap (λ a. by_answer a (holding (accepted e (held xs)) (contents v before)) (contents v before)) granted);
       place =
           let there : (k : ℕ) → k < 4 → get_or xs k no_slot ≡ get_or (slots w x y z) k no_slot = λ k m. get_or-take 4 (slots w x y z) k no_slot m in
           ap (λ s. over (set (slots w x y z) i s)) (is_filled ∙ ap (λ s. filled s (sequence_of e) e) (there i l))

@@ -1,7 +1,7 @@
 -- The rules of a room over a function from bidders to what is kept for them: the view of a room in which the promise is proved.
 use Rattle.std.proofs.Common.{ℕ, Bool, cond, ◌&&◌, eqb, ltb, leb, List, [], ◌∷◌, length, Some, None, Ok, Err, Option}
 use Rattle.std.specs.Str.{bytes_eq}
-use Rattle.fault.specs.Checks.{Check, decided, left}
+use Rattle.fault.specs.Checks.{Check, decision, by_answer}
 use Rattle.cipher.specs.declared.faults.CipherFault.TheVariants.{WrongTag as CipherWrongTag}
 use Rattle.envelope.specs.Heads.{lot_of, bidder_of, sequence_of}
 use Rattle.envelope.specs.Envelopes.{envelope_size, tag_part}
@@ -38,7 +38,7 @@ checks_by s long lot bidder sequence last right =
     ∷ ((ltb last sequence, SequenceNotAbove) ∷ ((right, WrongTag bidder sequence CipherWrongTag) ∷ []))))
 
 unfoldable pub verdict_by : Sale → ℕ → ℕ → ℕ → ℕ → ℕ → Bool → Answer
-verdict_by s long lot bidder sequence last right = decided (checks_by s long lot bidder sequence last right) sequence
+verdict_by s long lot bidder sequence last right = decision (checks_by s long lot bidder sequence last right) sequence
 
 abbrev pub verdict : Sale → Kept → Bytes → Answer
 verdict s k e =
@@ -49,13 +49,13 @@ abbrev pub renewed : Bytes → Kept → Kept
 renewed e k b = cond (eqb (bidder_of e) b) (Some e) (k b)
 
 abbrev pub settled : Answer → Kept → Bytes → Kept
-settled v k e = left v (renewed e k) k
+settled v k e = by_answer v (renewed e k) k
 
 abbrev pub asked : Sale → ℕ → ℕ → Answer
-asked s b n = decided ((registered s.register b, UnknownBidder) ∷ []) n
+asked s b n = decision ((registered s.register b, UnknownBidder) ∷ []) n
 
 abbrev pub opened : Sizes → ℕ → Answer
-opened o n = decided ((leb 64 o.sheet && (leb 2258 o.page && eqb o.work 64), Places) ∷ []) n
+opened o n = decision ((leb 64 o.sheet && (leb 2258 o.page && eqb o.work 64), Places) ∷ []) n
 
 -- The amount of what is kept for a bidder, the sheet of a function from bidders to amounts, and the page.
 abbrev pub amount_for : Sale → ℕ → Option Bytes → ℕ

@@ -1,7 +1,7 @@
 -- Rooms of one bidder, and what they answer and leave where a bid is lodged.
 use Rattle.std.proofs.Common.{◌≡◌, ℕ, ◌^◌, ◌<◌, ◌≤◌, Bool, true, false, cond, ltb, List, [], ◌∷◌, length, replicate, Some, Ok, Err, Option, sym, refl, ap, ◌∙◌, arith}
 use Rattle.std.proofs.lemmas.Bool.{eq-eqb, le-ltb}
-use Rattle.fault.specs.Checks.{left}
+use Rattle.fault.specs.Checks.{by_answer}
 use Rattle.engine.specs.declared.variants.Variant.{Variant}
 use Rattle.envelope.specs.Letters.{most_cents}
 use Rattle.envelope.specs.Heads.{lot_of, bidder_of, sequence_of}
@@ -114,7 +114,7 @@ module _ (v : Variant) where
         takes above = record {
           answers = sym (lodged_ok above);
           leaves = sym (
-              ap (λ a. left a (holding (accepted e held) (contents v (room Open x))) (contents v (room Open x))) (lodged_ok above)
+              ap (λ a. by_answer a (holding (accepted e held) (contents v (room Open x))) (contents v (room Open x))) (lodged_ok above)
               ∙ ap (λ t. holding (cond t (record { bidder = 3; key = key; envelope = Some e } ∷ []) held) (contents v (room Open x))) (eq-eqb 3 (bidder_of e) (sym e_bidder))
               ∙ ap (λ k. holding (record { bidder = 3; key = key; envelope = k } ∷ []) (contents v (room Open x))) (sym (filled_keeps n amount old_tag up))
               );
@@ -133,7 +133,7 @@ module _ (v : Variant) where
         pub refuses : n ≤ sequence_in o → Met v (room Open x) (Lodging e) (Err SequenceNotAbove) (room Open x)
         refuses low = record {
           answers = sym (lodged_not low);
-          leaves = sym (ap (λ a. left a (holding (accepted e held) (contents v (room Open x))) (contents v (room Open x))) (lodged_not low));
+          leaves = sym (ap (λ a. by_answer a (holding (accepted e held) (contents v (room Open x))) (contents v (room Open x))) (lodged_not low));
           place = refl;
         }
 

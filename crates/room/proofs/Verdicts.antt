@@ -4,7 +4,7 @@ use Rattle.std.specs.List.{AllByRecursion}
 use Rattle.std.specs.Str.{bytes_eq}
 use Rattle.std.proofs.lemmas.Bool.{eqb-true, eq-eqb, ltb-true, lt-ltb}
 use Rattle.std.proofs.lemmas.Slice.Eq.{bytes_eq-Decides}
-use Rattle.fault.specs.Checks.{Check, decided}
+use Rattle.fault.specs.Checks.{Check, decision}
 use Rattle.envelope.specs.Heads.{lot_of, bidder_of, sequence_of}
 use Rattle.envelope.specs.Envelopes.{tag_part}
 use Rattle.room.specs.Sales.{Bytes, Sale, Genuine, tag_due}
@@ -15,22 +15,22 @@ use Rattle.room.specs.declared.faults.RoomFault.{RoomFault}
 abbrev pub Passes : {F : Type 0} → List (Check F) → Type 0
 Passes cs = AllByRecursion (λ c. c.0 ≡ true) cs
 
-pub passes : {X F : Type 0} (cs : List (Check F)) (x y : X) → decided cs x ≡ Ok y → Passes cs
+pub passes : {X F : Type 0} (cs : List (Check F)) (x y : X) → decision cs x ≡ Ok y → Passes cs
 passes [] x y h = tt
 passes {X} {F} (c ∷ cs) x y h = go c.0 refl (λ n. passes cs x y n) h
   where
-    go : (t : Bool) → c.0 ≡ t → (decided cs x ≡ Ok y → Passes cs) → cond t (decided cs x) (Err c.1) ≡ Ok y → Passes (c ∷ cs)
+    go : (t : Bool) → c.0 ≡ t → (decision cs x ≡ Ok y → Passes cs) → cond t (decision cs x) (Err c.1) ≡ Ok y → Passes (c ∷ cs)
     go true e rest n = (e, rest n)
     go false e rest n = let z : ◌≡◌ {A = ℕ} 0 1 = cc in absurd (omega arith)
 
-pub grants_all : {X F : Type 0} (cs : List (Check F)) (x : X) → Passes cs → decided cs x ≡ Ok x
+pub grants_all : {X F : Type 0} (cs : List (Check F)) (x : X) → Passes cs → decision cs x ≡ Ok x
 grants_all [] x h = refl
 grants_all (c ∷ cs) x h = rw h.0 (grants_all cs x h.1)
 
 -- A granted answer is the one that was to be given.
-pub granted_value : {X F : Type 0} (cs : List (Check F)) (x y : X) → decided cs x ≡ Ok y → x ≡ y
+pub granted_value : {X F : Type 0} (cs : List (Check F)) (x y : X) → decision cs x ≡ Ok y → x ≡ y
 granted_value {X} {F} cs x y h =
-    let g : decided cs x ≡ Ok x = grants_all cs x (passes cs x y h) in
+    let g : decision cs x ≡ Ok x = grants_all cs x (passes cs x y h) in
     let e : ◌≡◌ {A = Result X F} (Ok x) (Ok y) = sym g ∙ h in
     cc
 

@@ -1,6 +1,6 @@
 -- Which calls a phase admits.
 use Rattle.std.specs.Prelude.{[], ◌∷◌, Ok, Result}
-use Rattle.fault.specs.Checks.{decided}
+use Rattle.fault.specs.Checks.{decision}
 use Rattle.room.specs.Calls.{is_open, is_closed}
 use Rattle.room.specs.declared.admission.Op.{Op}
 use Rattle.room.specs.declared.admission.Op.TheVariants.{Lodge, Ask, Close, Open}
@@ -10,7 +10,7 @@ use Rattle.room.specs.declared.slots.Phase.{Phase}
 
 -- Lodging and closing ask for an open room, opening for a closed one, and asking for neither.
 abbrev pub admitted : Phase → Op → Result (Unit {0}) RoomFault
-admitted p Lodge = decided ((is_open p, Closed) ∷ []) tt
+admitted p Lodge = decision ((is_open p, Closed) ∷ []) tt
 admitted p Ask = Ok tt
-admitted p Close = decided ((is_open p, Closed) ∷ []) tt
-admitted p Open = decided ((is_closed p, NotClosed) ∷ []) tt
+admitted p Close = decision ((is_open p, Closed) ∷ []) tt
+admitted p Open = decision ((is_closed p, NotClosed) ∷ []) tt

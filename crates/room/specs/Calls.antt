@@ -1,7 +1,7 @@
 -- The calls upon a room: what each answers, and the room that it leaves.
 use Rattle.std.specs.Prelude.{◌≡◌, ℕ, Bool, true, false, cond, ◌&&◌, List, [], ◌∷◌, ◌++◌, length, Some, None, Ok, Err, Option, Result, ◌==◌, nat_le, nat_lt}
 use Rattle.std.specs.Str.{bytes_eq}
-use Rattle.fault.specs.Checks.{Check, decided, left}
+use Rattle.fault.specs.Checks.{Check, decision, by_answer}
 use Rattle.engine.specs.declared.variants.Variant.{Variant}
 use Rattle.cipher.specs.declared.faults.CipherFault.TheVariants.{WrongTag as CipherWrongTag}
 use Rattle.envelope.specs.Letters.{amount_offered}
@@ -102,10 +102,10 @@ opening_checks r o =
 
 -- What a call answers: lodging the envelope's sequence, asking the last accepted one, opening the length of the page.
 abbrev pub answer_to : Contents → Call → Answer
-answer_to r (Lodging e) = decided (lodging_checks r e) (sequence_of e)
-answer_to r (Asking b) = decided (asking_checks r b) (sequence_in (kept_for r.holdings b))
-answer_to r Closing = decided (closing_checks r) 0
-answer_to r (Opening o) = decided (opening_checks r o) (length (page_of_room r))
+answer_to r (Lodging e) = decision (lodging_checks r e) (sequence_of e)
+answer_to r (Asking b) = decision (asking_checks r b) (sequence_in (kept_for r.holdings b))
+answer_to r Closing = decision (closing_checks r) 0
+answer_to r (Opening o) = decision (opening_checks r o) (length (page_of_room r))
 
 -- The room with other holdings, and the room closed.
 abbrev pub holding : List Holding → Contents → Contents
@@ -116,9 +116,9 @@ closed r = record { variant = r.variant; lot = r.lot; terms = r.terms; phase = P
 
 -- The room that a call leaves: lodging keeps the envelope and closing ends lodging, where they are granted; nothing else changes a room.
 abbrev pub room_after : Contents → Call → Contents
-room_after r (Lodging e) = left (answer_to r (Lodging e)) (holding (accepted e r.holdings) r) r
+room_after r (Lodging e) = by_answer (answer_to r (Lodging e)) (holding (accepted e r.holdings) r) r
 room_after r (Asking b) = r
-room_after r Closing = left (answer_to r Closing) (closed r) r
+room_after r Closing = by_answer (answer_to r Closing) (closed r) r
 room_after r (Opening o) = r
 
 -- All that a place is made of, used parts and unused. (That its counts are within its arrays and its slots rise are facts of every place, and no
@@ -138,9 +138,9 @@ plain_fields s =
 -- The place that a call leaves, used parts and unused: a granted lodging fills one slot, a granted closing ends the phase, and nothing else
 -- changes a place. So a refusal changes nothing.
 abbrev pub place_after : PlainFields → Call → Answer → PlainFields
-place_after s (Lodging e) a = left a (record s { slots = filled_in e s.slots }) s
+place_after s (Lodging e) a = by_answer a (record s { slots = filled_in e s.slots }) s
 place_after s (Asking b) a = s
-place_after s Closing a = left a (record s { phase = PhaseClosed }) s
+place_after s Closing a = by_answer a (record s { phase = PhaseClosed }) s
 place_after s (Opening o) a = s
 
 -- What every call promises, above an engine of a variant, of the place before it, its answer and the place after it: of what the place holds of a

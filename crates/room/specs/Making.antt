@@ -1,7 +1,7 @@
 -- Making a room in a place: when it is refused, and what the place holds afterwards.
 use Rattle.std.specs.Prelude.{◌≡◌, ℕ, ◌+◌, ◌^◌, ◌<◌, Bool, true, ◌&&◌, List, [], ◌∷◌, map, length, replicate, IfOk, None, Result, MatchResult, nat_le}
 use Rattle.std.specs.List.{AllByRecursion}
-use Rattle.fault.specs.Checks.{Check, decided}
+use Rattle.fault.specs.Checks.{Check, decision}
 use Rattle.engine.specs.declared.variants.Variant.{Variant}
 use Rattle.room.specs.Sales.{Bytes}
 use Rattle.room.specs.Rooms.{Holding, Contents, contents}
@@ -27,7 +27,7 @@ abbrev pub making_checks : Bytes → List RegisterEntry → List (Check RoomFaul
 making_checks terms register = (nat_le (length terms) 64, TermsLength) ∷ ((lawful_register register, Register) ∷ [])
 
 abbrev pub making_answer : Bytes → List RegisterEntry → Result (Unit {0}) RoomFault
-making_answer terms register = decided (making_checks terms register) tt
+making_answer terms register = decision (making_checks terms register) tt
 
 -- A room just made: it is open, and holds nothing yet.
 abbrev pub nothing_held : RegisterEntry → Holding

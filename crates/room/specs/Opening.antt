@@ -1,6 +1,6 @@
 -- Opening a room: what it writes to the places lent to it.
 use Rattle.std.specs.Prelude.{◌≡◌, List, ◌++◌, length, drop, replicate}
-use Rattle.fault.specs.Checks.{left}
+use Rattle.fault.specs.Checks.{by_answer}
 use Rattle.engine.specs.declared.variants.Variant.{Variant}
 use Rattle.room.specs.Sales.{Bytes}
 use Rattle.room.specs.Rooms.{contents}
@@ -25,6 +25,6 @@ written_over new old = new ++ drop (length new) old
 -- refused one leaves them, and that the work area is all zero afterwards in any case, whatever its length.
 pub record Opened (v : Variant) (before : RoomState) (given : Lent) (a : Answer) (given_back : Lent) (after : RoomState) : Type 0 where
   pub meets : Met v before (Opening (sizes_of given)) a after
-  pub sheet : given_back.sheet ≡ left a (written_over (sheet_of (contents v before)) given.sheet) given.sheet
-  pub page : given_back.page ≡ left a (written_over (page_of_room (contents v before)) given.page) given.page
+  pub sheet : given_back.sheet ≡ by_answer a (written_over (sheet_of (contents v before)) given.sheet) given.sheet
+  pub page : given_back.page ≡ by_answer a (written_over (page_of_room (contents v before)) given.page) given.page
   pub work : given_back.work ≡ replicate (length given.work) 0

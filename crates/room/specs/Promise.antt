@@ -4,7 +4,7 @@ use Rattle.std.specs.List.{AllZip}
 use Rattle.engine.specs.declared.variants.Variant.{Variant}
 use Rattle.envelope.specs.Envelopes.{bid}
 use Rattle.envelope.specs.Calls.{bid_answer}
-use Rattle.envelope.specs.Takings.{Fresh, Takings, heads_given, NoTwoEqual}
+use Rattle.envelope.specs.Takings.{IsNewPen, Takings, heads_given, NoTwoEqual}
 use Rattle.envelope.specs.declared.faults.EnvelopeFault.{EnvelopeFault}
 use Rattle.envelope.specs.declared.heads.Head.{Head}
 use Rattle.envelope.specs.declared.pens.Pen.{Pen}
@@ -85,7 +85,7 @@ pub record Promise : Type 0 where
       → OneToAHead (sale x) (envelopes x) → (p q : Bytes) → Prints x p → Prints y q → p ≡ q
   -- No two heads that one pen gave since its making are equal, after every list of takings, granted or refused.
   pub no_two_heads_of_one_pen_are_equal :
-      (lot : ℕ) (terms : Bytes) (p q : Pen) (answers : List (Result Head EnvelopeFault)) → Fresh lot terms p → Takings p answers q
+      (lot : ℕ) (terms : Bytes) (p q : Pen) (answers : List (Result Head EnvelopeFault)) → IsNewPen lot terms p → Takings p answers q
       → NoTwoEqual (heads_given answers)
   -- Where two rooms alike in those four have met lists that differ only in sealed letters, their answers are equal at each position up to and with
   -- the granted closing.

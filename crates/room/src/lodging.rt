@@ -1,6 +1,6 @@
 // Lodging of envelopes, asking and closing.
 ghost use Rattle.std.specs.Prelude.{◌≡◌, length};
-ghost use Rattle.fault.specs.Checks.{decided, left};
+ghost use Rattle.fault.specs.Checks.{decision, by_answer};
 ghost use Rattle.engine.specs.declared.variants.Variant.{Variant as Kind};
 ghost use Rattle.cipher.specs.Mode.{tag_size};
 ghost use Rattle.envelope.specs.Parts.{bid_seen, bid_of};
@@ -61,7 +61,7 @@ impl<E: Engine> Conditions<'_, E> {
     // The bid in an envelope, if the envelope has the variant's length and is for the lot.
     fn read<'a>(&self, envelope: &'a [u8]) -> Result<SealedBid<'a>, RoomFault>
         ensures { let v = E.kind self.now.engine.now in
-            bid_read result ≡ decided (head_checks v self.now.lot envelope.now) (bid_of envelope.now) }
+            bid_read result ≡ decision (head_checks v self.now.lot envelope.now) (bid_of envelope.now) }
     {
         let variant = self.engine.variant();
         let bid = parts_of(envelope)
@@ -77,8 +77,8 @@ impl<E: Engine> Conditions<'_, E> {
     fn keep(&self, slot: &mut Slot, bid: SealedBid) -> Result<u32, RoomFault>
         requires { length bid.tag.now ≡ tag_size (E.kind self.now.engine.now) }
         ensures answer { let v = E.kind self.now.engine.now in let b = bid_seen bid.entry in
-            result ≡ decided (bid_checks v slot.old.key self.now.terms.now b) b.head.sequence }
-        ensures slot { slot.new ≡ left result (filled_by (bid_seen bid.entry) slot.old) slot.old }
+            result ≡ decision (bid_checks v slot.old.key self.now.terms.now b) b.head.sequence }
+        ensures slot { slot.new ≡ by_answer result (filled_by (bid_seen bid.entry) slot.old) slot.old }
     {
         let SealedBid { head, letter, tag } = bid;
         self.check_tag(&slot.key, head, letter, tag)?;
@@ -96,7 +96,7 @@ impl<E: Engine> Conditions<'_, E> {
     ) -> Result<(), RoomFault>
         requires { length tag.now ≡ tag_size (E.kind self.now.engine.now) }
         ensures { let v = E.kind self.now.engine.now in
-            result ≡ decided (bid_checks v key.now self.now.terms.now
+            result ≡ decision (bid_checks v key.now self.now.terms.now
             (record { head = head; letter = letter.now; tag = tag.now })) tt }
     {
         let text = match check(self.engine, key, &head_of(head), self.terms, letter, tag) {

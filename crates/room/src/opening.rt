@@ -1,7 +1,7 @@
 // Opening: the amounts of all bidders onto the sheet, and the page.
 ghost use Rattle.std.specs.Prelude.{◌≡◌, ◌+◌, ◌^◌, ◌<◌, ◌≤◌, ◌&&◌, [], ◌∷◌, length, All, if◌then◌else◌, nat_le, nat_lt, slice_set};
 ghost use Rattle.std.specs.List.{AllByRecursion};
-ghost use Rattle.fault.specs.Checks.{decided};
+ghost use Rattle.fault.specs.Checks.{decision};
 ghost use Rattle.list.specs.Insertion.{entries_of};
 ghost use Rattle.room.specs.Rising.{RiseByBidder};
 ghost use Rattle.room.specs.Rooms.{contents};
@@ -27,7 +27,7 @@ pub const MOST_PAGE_BYTES: usize = 2258;
 pub(crate) fn check_places(sheet: &[SheetEntry], page: &[u8]) -> Result<(), RoomFault>
     ensures { let wide = nat_le MOST_BIDDERS (length sheet.now) in
         let long = nat_le MOST_PAGE_BYTES (length page.now) in
-        result ≡ decided ((wide && long, Places) ∷ []) tt }
+        result ≡ decision ((wide && long, Places) ∷ []) tt }
 {
     if sheet.len() < MOST_BIDDERS || page.len() < MOST_PAGE_BYTES {
         return Err(RoomFault::Places);

@@ -1,7 +1,7 @@
 -- Known answers, when a variant agrees with one, and which are tried.
 use Rattle.std.specs.Prelude.{ℕ, zero, suc, ◌-◌, Bool, true, false, not, ◌&&◌, List, [], ◌∷◌, map, filter, Ok, Err, Result}
 use Rattle.std.specs.Str.{bytes_eq}
-use Rattle.fault.specs.Checks.{granted}
+use Rattle.fault.specs.Checks.{is_granted}
 use Rattle.engine.specs.declared.variants.Variant.{Variant}
 use Rattle.cipher.specs.Mode.{sealed_text, tag}
 use Rattle.cipher.specs.Calls.{CheckedText, seal_answer, check_answer, open_answer, text_of_checked}
@@ -23,7 +23,7 @@ pub record KnownAnswer : Type 0 where
 abbrev pub sealing_agreement : Variant → KnownAnswer → Bool
 sealing_agreement v a =
     let sealed = sealed_text v a.key a.nonce a.text in
-    granted (seal_answer v a.key a.nonce a.associated a.text a.sealed a.tag)
+    is_granted (seal_answer v a.key a.nonce a.associated a.text a.sealed a.tag)
     && (bytes_eq sealed a.sealed && bytes_eq (tag v a.key a.nonce a.associated sealed) a.tag)
 
 -- The answer of checking the sealed text under a tag.
@@ -32,7 +32,7 @@ checking v a tag_place = check_answer v a.key a.nonce a.associated a.sealed tag_
 
 -- Whether a check is granted, and the checked text opens to this text, in a place of its length.
 abbrev pub opening_agreement : Result CheckedText CipherFault → List ℕ → Bool
-opening_agreement (Ok t) text = granted (open_answer t text) && bytes_eq (text_of_checked t) text
+opening_agreement (Ok t) text = is_granted (open_answer t text) && bytes_eq (text_of_checked t) text
 opening_agreement (Err f) text = false
 
 -- Whether a check is refused for the tag, and not for a size.

@@ -2,7 +2,7 @@
 -- permutation is Jumbo's.
 use Rattle.std.specs.Prelude.{ℕ, zero, suc, Bool, false, ◌&&◌, if◌then◌else◌, ◌==◌, List, [], ◌∷◌, ◌++◌, length, take, replicate, Ok, Err, Result}
 use Rattle.std.specs.Str.{bytes_eq}
-use Rattle.fault.specs.Checks.{granted}
+use Rattle.fault.specs.Checks.{is_granted}
 use Rattle.hex.specs.Hex.{decode_sized}
 use Rattle.hex.specs.declared.error.FromHexError.{FromHexError}
 use Rattle.engine.specs.declared.variants.Variant.{Variant}
@@ -23,7 +23,7 @@ is_writing digits bytes = is_decoding (decode_sized digits (length bytes)) bytes
 
 -- Whether the permutation of a block is granted and is what the digits write.
 abbrev pub is_permutation : Variant → List ℕ → List ℕ → Bool
-is_permutation v block digits = granted (one_answer v block) && is_writing digits (one_after v block)
+is_permutation v block digits = is_granted (one_answer v block) && is_writing digits (one_after v block)
 
 -- The trials of Keccak's values: zeros are permuted, and what comes of them once more.
 abbrev pub keccak_trials : Variant → List ℕ → List ℕ → List Bool

@@ -7,7 +7,7 @@ use Rattle.engine.specs.declared.variants.Variant.TheVariants.{Dumbo, Jumbo, Del
 use Rattle.cipher.specs.Blocks.{parts}
 use Rattle.cipher.specs.Masks.{phi1}
 use Rattle.cipher.specs.Mode.{with_01 as with_01}
-use Rattle.envelope.specs.Letters.{letter, lawful, most_note_bytes}
+use Rattle.envelope.specs.Letters.{letter, is_lawful, most_note_bytes}
 use Rattle.room.specs.Page.{page}
 use Rattle.room.specs.Lot17.{page_17}
 
@@ -50,8 +50,8 @@ pub record WorkedExamples : Type 0 where
       (nonce associated : List ℕ) → length nonce ≡ 12 → length associated ≡ 8
       → dumbo_parts nonce associated ≡ 2
   pub the_limit_is_lawful :
-      (note : List ℕ) → length note ≤ most_note_bytes → lawful (letter 999999999999 note) ≡ true
-  pub one_cent_more_is_not : (note : List ℕ) → lawful (letter 1000000000000 note) ≡ false
+      (note : List ℕ) → length note ≤ most_note_bytes → is_lawful (letter 999999999999 note) ≡ true
+  pub one_cent_more_is_not : (note : List ℕ) → is_lawful (letter 1000000000000 note) ≡ false
   -- The page of lot 17 with 250000 for bidders 3 and 5 and 310000 for bidder 8 on the sheet.
   pub the_page_of_a_sheet_of_lot_17 :
       page 17 (record { bidder = 3; amount = 250000 } ∷ record { bidder = 5; amount = 250000 }
