@@ -27,7 +27,8 @@ pub(crate) fn load(bytes: &[u8], block: &mut [u8])
 // Xors neighbouring blocks of n bytes into the sum.
 fn add_blocks(sum: &mut Block, n: usize, blocks: &[u8])
     requires { 0 < n }
-    ensures { sum.new ≡ sum_of_parts (λ q. take n (drop (q * n) blocks.now)) (length blocks.now / n) 0 sum.old }
+    ensures { sum.new
+        ≡ sum_of_parts (λ q. take n (drop (q * n) blocks.now)) (length blocks.now / n) 0 sum.old }
 {
     for block in blocks.chunks_exact(n) {
         xor_into(sum, block);
@@ -45,8 +46,12 @@ impl<'e, E: Engine> Keyed<'e, E> {
         sum: &mut Block,
     ) -> Result<(), CipherFault>
         ensures granted { result ≡ Ok tt }
-        ensures sum { let v = E.kind self.now.engine.now in let n = block_size v in block_in v sum.new ≡ sum_with_parts v (block_in v running.old) j (min (parts n (length bytes.now + 1)) 4) 0 (with_01 bytes.now) (block_in v sum.old) }
-        ensures running { let v = E.kind self.now.engine.now in block_in v running.new ≡ iterate (first_phi v) 4 (block_in v running.old) }
+        ensures sum { let v = E.kind self.now.engine.now in let n = block_size v in
+            let count = min (parts n (length bytes.now + 1)) 4 in let first = block_in v running.old in
+            block_in v sum.new
+            ≡ sum_with_parts v first j count 0 (with_01 bytes.now) (block_in v sum.old) }
+        ensures running { let v = E.kind self.now.engine.now in
+            block_in v running.new ≡ iterate (first_phi v) 4 (block_in v running.old) }
     {
         let n = self.engine.variant().block_bytes();
         let count = (bytes.len() / n + 1).min(4);
@@ -67,7 +72,10 @@ impl<'e, E: Engine> Keyed<'e, E> {
         sum: &mut Block,
     ) -> Result<(), CipherFault>
         ensures granted { result ≡ Ok tt }
-        ensures sum { let v = E.kind self.now.engine.now in block_in v sum.new ≡ sum_with_parts v (block_in v mask) j (parts (block_size v) (length (with_01 bytes.now))) 0 (with_01 bytes.now) (block_in v sum.old) }
+        ensures sum { let v = E.kind self.now.engine.now in
+            let count = parts (block_size v) (length (with_01 bytes.now)) in
+            block_in v sum.new
+            ≡ sum_with_parts v (block_in v mask) j count 0 (with_01 bytes.now) (block_in v sum.old) }
     {
         let groups = bytes.chunks_exact(4 * self.engine.variant().block_bytes());
         let rest = groups.remainder();

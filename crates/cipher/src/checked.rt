@@ -34,7 +34,8 @@ pub fn check<'a, E: Engine>(
     sealed: &'a [u8],
     tag: &[u8],
 ) -> Result<Checked<'a>, CipherFault>
-    ensures { check_seen result ≡ check_answer (E.kind engine.now) key.now nonce.now associated.now sealed.now tag.now }
+    ensures { check_seen result
+        ≡ check_answer (E.kind engine.now) key.now nonce.now associated.now sealed.now tag.now }
 {
     let variant = engine.variant();
     let lawful = check_sizes(variant, key, nonce, associated, sealed, tag)?;
@@ -60,7 +61,9 @@ impl<'e, E: Engine> Keyed<'e, E> {
         sealed: &[u8],
         tag: &[u8],
     ) -> Result<bool, CipherFault>
-        ensures { let v = E.kind self.now.engine.now in result ≡ Ok (bytes_eq tag.now (tag_from v (block_in v self.now.first) nonce.now associated.now sealed.now)) }
+        ensures { let v = E.kind self.now.engine.now in
+            let right = tag_from v (block_in v self.now.first) nonce.now associated.now sealed.now in
+            result ≡ Ok (bytes_eq tag.now right) }
     {
         let mut block = [0; MOST_BLOCK_BYTES];
         self.tag(nonce, associated, sealed, &mut block)?;

@@ -23,7 +23,8 @@ pub(crate) struct Keyed<'e, E: Engine> {
 impl<'e, E: Engine> Keyed<'e, E> {
     // Makes the first mask of a key.
     pub(crate) fn new(engine: &'e E, key: &[u8; KEY_BYTES]) -> Result<Keyed<'e, E>, CipherFault>
-        ensures { IsOkAnd result (λ k. (k.engine.now ≡ engine.now) × (block_in (E.kind engine.now) k.first ≡ first_mask (E.kind engine.now) key.now)) }
+        ensures { IsOkAnd result (λ k. (k.engine.now ≡ engine.now)
+            × (block_in (E.kind engine.now) k.first ≡ first_mask (E.kind engine.now) key.now)) }
     {
         let mut first = [0; MOST_BLOCK_BYTES];
         first[0..KEY_BYTES].copy_from_slice(key);
@@ -34,7 +35,10 @@ impl<'e, E: Engine> Keyed<'e, E> {
     // Xors a mask into a block, permutes the block, and xors the mask in again.
     pub(crate) fn encipher(&self, mask: &Block, block: &mut Block) -> Result<(), CipherFault>
         ensures granted { result ≡ Ok tt }
-        ensures block { let v = E.kind self.now.engine.now in block_in v block.new ≡ xor_of (permutation v (xor_of (block_in v block.old) (block_in v mask.now))) (block_in v mask.now) }
+        ensures block { let v = E.kind self.now.engine.now in
+            block_in v block.new
+            ≡ xor_of (permutation v (xor_of (block_in v block.old) (block_in v mask.now)))
+            (block_in v mask.now) }
     {
         let n = self.engine.variant().block_bytes();
         xor_into(block, mask);
@@ -52,8 +56,12 @@ impl<'e, E: Engine> Keyed<'e, E> {
         blocks: &mut Blocks,
     ) -> Result<(), CipherFault>
         ensures granted { result ≡ Ok tt }
-        ensures blocks { let v = E.kind self.now.engine.now in let n = block_size v in let masks = stream (λ q. mask_of v (block_in v running.old) q j) 4 0 in take (4 * n) blocks.new ≡ xor_of (each (permutation v) n 4 (xor_of (take (4 * n) blocks.old) masks)) masks }
-        ensures running { let v = E.kind self.now.engine.now in block_in v running.new ≡ iterate (first_phi v) 4 (block_in v running.old) }
+        ensures blocks { let v = E.kind self.now.engine.now in let n = block_size v in
+            let masks = stream (λ q. mask_of v (block_in v running.old) q j) 4 0 in
+            take (4 * n) blocks.new
+            ≡ xor_of (each (permutation v) n 4 (xor_of (take (4 * n) blocks.old) masks)) masks }
+        ensures running { let v = E.kind self.now.engine.now in
+            block_in v running.new ≡ iterate (first_phi v) 4 (block_in v running.old) }
     {
         let variant = self.engine.variant();
         let mut masks = [0; MOST_GROUP_BYTES];

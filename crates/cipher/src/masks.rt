@@ -60,8 +60,10 @@ pub(crate) fn mask(variant: Variant, running: &Block, j: usize) -> Block
 
 // Writes four masks side by side, from the running one on, and steps the running one past them.
 pub(crate) fn four_masks(variant: Variant, running: &mut Block, j: usize, masks: &mut Blocks)
-    ensures masks { take (4 * block_size variant) masks.new ≡ stream (λ q. mask_of variant (block_in variant running.old) q j) 4 0 }
-    ensures running { block_in variant running.new ≡ iterate (first_phi variant) 4 (block_in variant running.old) }
+    ensures masks { take (4 * block_size variant) masks.new
+        ≡ stream (λ q. mask_of variant (block_in variant running.old) q j) 4 0 }
+    ensures running { block_in variant running.new
+        ≡ iterate (first_phi variant) 4 (block_in variant running.old) }
 {
     let n = variant.block_bytes();
     // By the place: what `chunks_exact_mut` wrote is not known after the loop.

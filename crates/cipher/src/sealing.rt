@@ -21,9 +21,13 @@ pub fn seal<E: Engine>(
     out: &mut [u8],
     tag: &mut [u8],
 ) -> Result<(), CipherFault>
-    ensures answer { result ≡ seal_answer (E.kind engine.now) key.now nonce.now associated.now text.now out.old tag.old }
-    ensures out { out.new ≡ by_answer result (sealed_text (E.kind engine.now) key.now nonce.now text.now) out.old }
-    ensures tag { tag.new ≡ by_answer result (tag_of (E.kind engine.now) key.now nonce.now associated.now (sealed_text (E.kind engine.now) key.now nonce.now text.now)) tag.old }
+    ensures answer { let v = E.kind engine.now in
+        result ≡ seal_answer v key.now nonce.now associated.now text.now out.old tag.old }
+    ensures out { let v = E.kind engine.now in
+        out.new ≡ by_answer result (sealed_text v key.now nonce.now text.now) out.old }
+    ensures tag { let v = E.kind engine.now in
+        let sealed = sealed_text v key.now nonce.now text.now in
+        tag.new ≡ by_answer result (tag_of v key.now nonce.now associated.now sealed) tag.old }
 {
     let lawful = check_sizes(engine.variant(), key, nonce, associated, text, tag)?;
     if out.len() != text.len() {

@@ -70,7 +70,9 @@ pub(crate) fn check_sizes<'a>(
     text: &[u8],
     tag: &[u8],
 ) -> Result<Lawful<'a>, CipherFault>
-    ensures { lawful_seen result ≡ decision (size_checks variant key.now nonce.now associated.now text.now tag.now []) (key.now, nonce.now) }
+    ensures { lawful_seen result
+        ≡ decision (size_checks variant key.now nonce.now associated.now text.now tag.now [])
+        (key.now, nonce.now) }
 {
     let key = sized_key(key)?;
     let nonce = nonce.as_array().ok_or(CipherFault::NonceLength)?;

@@ -34,8 +34,10 @@ impl<'e, E: Engine> Keyed<'e, E> {
         block: &mut Block,
     ) -> Result<(), CipherFault>
         ensures granted { result ≡ Ok tt }
-        ensures block { let v = E.kind self.now.engine.now in block_in v block.new ≡ key_block v (block_in v running.old) (block_in v nonce.now) 0 }
-        ensures running { let v = E.kind self.now.engine.now in block_in v running.new ≡ first_phi v (block_in v running.old) }
+        ensures block { let v = E.kind self.now.engine.now in
+            block_in v block.new ≡ key_block v (block_in v running.old) (block_in v nonce.now) 0 }
+        ensures running { let v = E.kind self.now.engine.now in
+            block_in v running.new ≡ first_phi v (block_in v running.old) }
     {
         let variant = self.engine.variant();
         *block = *nonce;
@@ -52,8 +54,11 @@ impl<'e, E: Engine> Keyed<'e, E> {
         blocks: &mut Blocks,
     ) -> Result<(), CipherFault>
         ensures granted { result ≡ Ok tt }
-        ensures blocks { let v = E.kind self.now.engine.now in take (4 * block_size v) blocks.new ≡ stream (key_block v (block_in v running.old) (block_in v nonce.now)) 4 0 }
-        ensures running { let v = E.kind self.now.engine.now in block_in v running.new ≡ iterate (first_phi v) 4 (block_in v running.old) }
+        ensures blocks { let v = E.kind self.now.engine.now in
+            take (4 * block_size v) blocks.new
+            ≡ stream (key_block v (block_in v running.old) (block_in v nonce.now)) 4 0 }
+        ensures running { let v = E.kind self.now.engine.now in
+            block_in v running.new ≡ iterate (first_phi v) 4 (block_in v running.old) }
     {
         copies(&nonce[0..self.engine.variant().block_bytes()], blocks);
         self.encipher_four(running, STREAM_TURNS, blocks)
@@ -69,8 +74,12 @@ impl<'e, E: Engine> Keyed<'e, E> {
     ) -> Result<(), CipherFault>
         requires { length out.old ≡ length part.now }
         ensures granted { result ≡ Ok tt }
-        ensures out { let v = E.kind self.now.engine.now in out.new ≡ xor_of part.now (stream (key_block v (block_in v running.old) (block_in v nonce.now)) (group v part.now) 0) }
-        ensures running { let v = E.kind self.now.engine.now in block_in v running.new ≡ iterate (first_phi v) (group v part.now) (block_in v running.old) }
+        ensures out { let v = E.kind self.now.engine.now in
+            let blocks = key_block v (block_in v running.old) (block_in v nonce.now) in
+            out.new ≡ xor_of part.now (stream blocks (group v part.now) 0) }
+        ensures running { let v = E.kind self.now.engine.now in
+            block_in v running.new
+            ≡ iterate (first_phi v) (group v part.now) (block_in v running.old) }
     {
         let n = self.engine.variant().block_bytes();
         out.copy_from_slice(part);
@@ -95,7 +104,9 @@ impl<'e, E: Engine> Keyed<'e, E> {
     ) -> Result<(), CipherFault>
         requires { length out.old ≡ length text.now }
         ensures granted { result ≡ Ok tt }
-        ensures out { let v = E.kind self.now.engine.now in out.new ≡ streamed_text v (block_in v self.now.first) (padded_part (block_size v) nonce.now) text.now }
+        ensures out { let v = E.kind self.now.engine.now in
+            out.new ≡ streamed_text v (block_in v self.now.first)
+            (padded_part (block_size v) nonce.now) text.now }
     {
         let mut nonce_block = [0; MOST_BLOCK_BYTES];
         nonce_block[0..NONCE_BYTES].copy_from_slice(nonce);

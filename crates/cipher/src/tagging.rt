@@ -14,7 +14,8 @@ use engine::{Engine, Variant};
 
 // Writes part 0 of nonce, associated data and 01.
 fn start_sum(variant: Variant, nonce: &[u8; NONCE_BYTES], associated: &[u8], sum: &mut Block)
-    ensures { block_in variant sum.new ≡ part (block_size variant) 0 (nonce.now ++ with_01 associated.now) }
+    ensures { block_in variant sum.new
+        ≡ part (block_size variant) 0 (nonce.now ++ with_01 associated.now) }
 {
     sum[0..NONCE_BYTES].copy_from_slice(nonce);
     load(associated, &mut sum[NONCE_BYTES..variant.block_bytes()]);
@@ -29,7 +30,9 @@ impl<'e, E: Engine> Keyed<'e, E> {
         sum: &mut Block,
     ) -> Result<(), CipherFault>
         ensures granted { result ≡ Ok tt }
-        ensures sum { let v = E.kind self.now.engine.now in block_in v sum.new ≡ associated_sum v (block_in v self.now.first) nonce.now associated.now }
+        ensures sum { let v = E.kind self.now.engine.now in
+            block_in v sum.new
+            ≡ associated_sum v (block_in v self.now.first) nonce.now associated.now }
     {
         let variant = self.engine.variant();
         start_sum(variant, nonce, associated, sum);
@@ -51,7 +54,10 @@ impl<'e, E: Engine> Keyed<'e, E> {
         block: &mut Block,
     ) -> Result<(), CipherFault>
         ensures granted { result ≡ Ok tt }
-        ensures block { let v = E.kind self.now.engine.now in let first = block_in v self.now.first in block_in v block.new ≡ enciphered_block v first (tag_sum v first nonce.now associated.now sealed.now) 0 0 }
+        ensures block { let v = E.kind self.now.engine.now in
+            let first = block_in v self.now.first in
+            block_in v block.new
+            ≡ enciphered_block v first (tag_sum v first nonce.now associated.now sealed.now) 0 0 }
     {
         self.sum_associated(nonce, associated, block)?;
         self.absorb(self.first, SEALED_TURNS, sealed, block)?;

@@ -30,7 +30,8 @@ fn word_from(xs: &[u8], p: usize) -> u64
 // Word t of block i, and above that bits of other words or none.
 fn quarter<S: Spongent>(blocks: &[u8], i: usize, t: usize) -> u64
     requires { (i * (S.WIDTH / 2) + S.WIDTH / 2 ≤ length blocks.now) × (t < 4) }
-    ensures { (k : ℕ) → k < S.WIDTH → bit result k ≡ bit_of (block_at (S.WIDTH / 2) i blocks.now) (t * S.WIDTH + k) }
+    ensures { (k : ℕ) → k < S.WIDTH
+        → bit result k ≡ bit_of (block_at (S.WIDTH / 2) i blocks.now) (t * S.WIDTH + k) }
 {
     let m = S::WIDTH as usize;
     let n = m / 2;
@@ -40,7 +41,8 @@ fn quarter<S: Spongent>(blocks: &[u8], i: usize, t: usize) -> u64
 // Word t of each block.
 fn quarters<S: Spongent, W: Word>(blocks: &[u8], t: usize) -> W
     requires { (length blocks.now ≡ W.BLOCKS * (S.WIDTH / 2)) × (t < 4) }
-    ensures { (i k : ℕ) → i < W.BLOCKS → k < S.WIDTH → W.at result i k ≡ bit_of (block_at (S.WIDTH / 2) i blocks.now) (t * S.WIDTH + k) }
+    ensures { (i k : ℕ) → i < W.BLOCKS → k < S.WIDTH
+        → W.at result i k ≡ bit_of (block_at (S.WIDTH / 2) i blocks.now) (t * S.WIDTH + k) }
 {
     W::from_fn(|i| quarter::<S>(blocks, i, t))
 }
@@ -48,7 +50,8 @@ fn quarters<S: Spongent, W: Word>(blocks: &[u8], t: usize) -> W
 // The blocks in words.
 pub(crate) fn load<S: Spongent, W: Word>(blocks: &[u8]) -> Planes<W>
     requires { length blocks.now ≡ W.BLOCKS * (S.WIDTH / 2) }
-    ensures { (i : ℕ) → i < W.BLOCKS → Holds S.WIDTH (of_block W.at result i) (bits (block_at (S.WIDTH / 2) i blocks.now)) }
+    ensures { (i : ℕ) → i < W.BLOCKS
+        → Holds S.WIDTH (of_block W.at result i) (bits (block_at (S.WIDTH / 2) i blocks.now)) }
 {
     Planes {
         a: quarters::<S, W>(blocks, 0),
@@ -73,7 +76,8 @@ fn byte_at<S: Spongent>(ws: &[u64; 5], k: usize) -> u8
 // Writes the block that lies in words.
 pub(crate) fn store<S: Spongent>(p: Planes<u64>, xs: &mut [u8])
     requires { length xs.old * 2 ≡ S.WIDTH }
-    ensures { (bs : List Bool) → Holds S.WIDTH (of_block one_at p 0) bs → xs.new ≡ block (length xs.old) bs }
+    ensures { (bs : List Bool) → Holds S.WIDTH (of_block one_at p 0) bs
+        → xs.new ≡ block (length xs.old) bs }
 {
     let ws = [p.a, p.b, p.c, p.d, 0];
     for (k, x) in xs.iter_mut().enumerate() {

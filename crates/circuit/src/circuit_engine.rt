@@ -22,8 +22,11 @@ pub enum Circuit {
 impl Circuit {
     // Replaces each block by the permutation of it. A place of another length is refused and left as it was.
     fn replace<W: Word>(self, blocks: &mut [u8]) -> Result<(), EngineFault>
-        ensures answer { result ≡ answer_by_length (W.BLOCKS * block_size (kind_of self)) blocks.old }
-        ensures blocks { blocks.new ≡ place_by_length (W.BLOCKS * block_size (kind_of self)) (each (permutation (kind_of self)) (block_size (kind_of self)) W.BLOCKS) blocks.old }
+        ensures answer { result
+            ≡ answer_by_length (W.BLOCKS * block_size (kind_of self)) blocks.old }
+        ensures blocks { blocks.new
+            ≡ place_by_length (W.BLOCKS * block_size (kind_of self))
+            (each (permutation (kind_of self)) (block_size (kind_of self)) W.BLOCKS) blocks.old }
     {
         if blocks.len() != W::BLOCKS * self.variant().block_bytes() {
             return Err(EngineFault::BlockLength);

@@ -26,7 +26,8 @@ struct Pair<W> {
 // Exchanges the bits of hi where the mask has ones with those of lo n places above: n as of `Word::up`.
 fn cross<W: Word>(lo: W, hi: W, n: u32, mask: u64) -> Pair<W>
     requires { n < 64 }
-    ensures { (i : ℕ) → Crossed n mask (W.at lo i) (W.at hi i) (W.at result.lo i) (W.at result.hi i) }
+    ensures { (i : ℕ)
+        → Crossed n mask (W.at lo i) (W.at hi i) (W.at result.lo i) (W.at result.hi i) }
 {
     let t = masked(lo.down(n).xor(hi), mask);
     Pair {

@@ -46,12 +46,14 @@ pub(crate) trait Word: Copy {
     // Each bit n places up; n is below 64.
     fn up(self, n: u32) -> Self
         requires { n < 64 }
-        ensures { (i k : ℕ) → k < 64 → at result i k ≡ (if nat_lt k n then false else at self i (k - n)) };
+        ensures { (i k : ℕ) → k < 64
+            → at result i k ≡ (if nat_lt k n then false else at self i (k - n)) };
 
     // Each bit n places down.
     fn down(self, n: u32) -> Self
         requires { n < 64 }
-        ensures { (i k : ℕ) → k < 64 → at result i k ≡ (if nat_lt (n + k) 64 then at self i (n + k) else false) };
+        ensures { (i k : ℕ) → k < 64
+            → at result i k ≡ (if nat_lt (n + k) 64 then at self i (n + k) else false) };
 
     // So many that their bytes can be counted.
     ghost few: { BLOCKS ≤ 4 };

@@ -32,7 +32,10 @@ pub fn seal_bid<E: Engine>(
     place: &mut [u8],
 ) -> Result<(), EnvelopeFault>
     ensures answer { result ≡ bid_answer (E.kind engine.now) key.now amount note.now place.old }
-    ensures place { place.new ≡ by_answer result (bid (E.kind engine.now) key.now (bytes_of_terms head.terms) head.fields.lot head.fields.bidder head.fields.sequence amount note.now) place.old }
+    ensures place { place.new
+        ≡ by_answer result
+        (bid (E.kind engine.now) key.now (bytes_of_terms head.terms) head.fields.lot
+        head.fields.bidder head.fields.sequence amount note.now) place.old }
 {
     let Head { fields, terms } = head;
     check_bid(engine.variant(), key, amount, note, place)?;
@@ -86,7 +89,8 @@ fn put_envelope<E: Engine>(
     requires terms { length terms.now ≤ 64 }
     requires place { length place.old ≡ envelope_size (E.kind engine.now) }
     ensures granted { result ≡ Ok tt }
-    ensures place { place.new ≡ envelope_of (E.kind engine.now) key.now terms.now nonce.now letter.now }
+    ensures place { place.new
+        ≡ envelope_of (E.kind engine.now) key.now terms.now nonce.now letter.now }
 {
     let (head, rest) = place.split_at_mut(HEAD_BYTES);
     let (sealed, tag) = rest.split_at_mut(LETTER_BYTES);

@@ -32,7 +32,8 @@ impl Engine for Interleaved {
 fn permute<const BLOCKS: usize>(blocks: &mut [u8]) -> Result<(), EngineFault>
     requires { BLOCKS ≤ 4 }
     ensures answer { result ≡ answer_by_length (BLOCKS * 25) blocks.old }
-    ensures blocks { blocks.new ≡ place_by_length (BLOCKS * 25) (each (permutation Delirium) 25 BLOCKS) blocks.old }
+    ensures blocks { blocks.new
+        ≡ place_by_length (BLOCKS * 25) (each (permutation Delirium) 25 BLOCKS) blocks.old }
 {
     if blocks.len() != BLOCKS * BLOCK_BYTES {
         return Err(EngineFault::BlockLength);

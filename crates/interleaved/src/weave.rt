@@ -10,7 +10,8 @@ pub(crate) const BLOCK_BYTES: usize = 25;
 // Exchanges the bits of x under m with those k places above.
 fn exchange(x: u32, k: u32, m: u32) -> u32
     requires { k < 32 }
-    ensures { (p : ℕ) → p < 32 → are_apart k m p ≡ true → bit result p ≡ bit x (exchange_source k m p) }
+    ensures { (p : ℕ) → p < 32 → are_apart k m p ≡ true
+        → bit result p ≡ bit x (exchange_source k m p) }
 {
     let t = (x ^ (x >> k)) & m;
     x ^ t ^ (t << k)

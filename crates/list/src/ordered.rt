@@ -34,7 +34,9 @@ impl<'a, T: Entry> Ordered<'a, T> {
 
     // The checks of an insertion, in their order.
     fn admits(&self, e: &T) -> Result<(), ListFault>
-        ensures { result ≡ unless_refused (refusal T.compares e.now self.now.places.now self.now.count) (Ok tt) Err }
+        ensures { result
+            ≡ unless_refused (refusal T.compares e.now self.now.places.now self.now.count) (Ok tt)
+            Err }
     {
         if has_equal(self.entries(), e) {
             return Err(ListFault::EqualEntry);
@@ -48,8 +50,10 @@ impl<'a, T: Entry> Ordered<'a, T> {
     /// Inserts an entry at its place in the order, and answers the new count.
     pub fn insert(&mut self, e: T) -> Result<usize, ListFault>
         ensures answer { result ≡ answer_of T.compares e self.old.places.now self.old.count }
-        ensures count { self.new.count ≡ count_after T.compares e self.old.places.now self.old.count }
-        ensures places { self.new.places.now ≡ places_after T.compares e self.old.places.now self.old.count }
+        ensures count { self.new.count
+            ≡ count_after T.compares e self.old.places.now self.old.count }
+        ensures places { self.new.places.now
+            ≡ places_after T.compares e self.old.places.now self.old.count }
         ensures rising_stays_rising { RisingStaysRising T.compares (entries_of self.old) (entries_of self.new) }
         ensures keeps_every_entry { KeepsEveryEntry e (entries_of self.old) (entries_of self.new) result }
         ensures same_places { self.new.places.ghost_name ≡ self.old.places.ghost_name }
@@ -80,7 +84,9 @@ fn count_ahead<T: Entry>(entries: &[T], e: &T) -> usize
 // Moves what lies from `at` up to `end` one place on, over the place at `end`, and stores `e` at `at`.
 fn store_at<T: Copy>(places: &mut [T], at: usize, end: usize, e: T)
     requires { (at ≤ end) × (end < length places.old) }
-    ensures { places.new ≡ take at places.old ++ (e ∷ (take (end - at) (drop at places.old) ++ drop (end + 1) places.old)) }
+    ensures { places.new
+        ≡ take at places.old
+        ++ (e ∷ (take (end - at) (drop at places.old) ++ drop (end + 1) places.old)) }
 {
     places[end] = e;
     places[at..end + 1].rotate_right(1);
