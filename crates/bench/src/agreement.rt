@@ -16,7 +16,8 @@ fn agree_on_one<A: Engine, B: Engine>(
     theirs: &B,
     block: &[u8],
 ) -> Result<bool, AllocError>
-    ensures { IfOk result (λ b. b ≡ agreement_on_one (A.kind ours.now) (B.kind theirs.now) block.now) }
+    ensures { let v = A.kind ours.now in let w = B.kind theirs.now in
+        IfOk result (λ b. b ≡ agreement_on_one v w block.now) }
 {
     let mut left = Vec::from_slice(heap, block)?;
     let mut right = Vec::from_slice(heap, block)?;
@@ -30,7 +31,8 @@ fn agree_on_four<A: Engine, B: Engine>(
     theirs: &B,
     blocks: &[u8],
 ) -> Result<bool, AllocError>
-    ensures { IfOk result (λ b. b ≡ agreement_on_four (A.kind ours.now) (B.kind theirs.now) blocks.now) }
+    ensures { let v = A.kind ours.now in let w = B.kind theirs.now in
+        IfOk result (λ b. b ≡ agreement_on_four v w blocks.now) }
 {
     let mut left = Vec::from_slice(heap, blocks)?;
     let mut right = Vec::from_slice(heap, blocks)?;

@@ -1,5 +1,5 @@
 // Holds the sale of each file in data/, and tells whether its report and its exit status are those written for it. It ends with status 0 where all
-// are, and with 1 where one is not or cannot be told.
+// are, with 1 where one is not, and with 2 where one cannot be told.
 #![tactic(auto)]
 
 ghost use Rattle.std.specs.Prelude.{◌≡◌, ◌↔◌, IsTrue, if◌then◌else◌, vec_items};
@@ -7,9 +7,14 @@ ghost use Rattle.std.specs.List.{list_all};
 ghost use Rattle.std.specs.Process.{exit_status};
 
 use anyhow::Context;
+use arguments::{begin, ended};
 use file::hold_sale;
 use std::fs;
 use std::process::ExitCode;
+
+// What `--help` tells.
+const ABOUT: &str =
+    "Holds the sale of each example file, and tells whether report and exit status are those written for it.";
 
 // A sale file NAME.sale with its report NAME.report, and the exit status that goes with it.
 #[derive(Clone, Copy)]
@@ -119,10 +124,17 @@ fn exit_code(as_written: &[bool]) -> ExitCode
     }
 }
 
-fn main(rt: HostRuntime) -> anyhow::Result<ExitCode> {
+fn run(rt: &HostRuntime) -> anyhow::Result<ExitCode> {
     let mut as_written = [false; EXAMPLES.len()];
     for (place, example) in as_written.iter_mut().zip(&EXAMPLES) {
-        *place = tell(&rt, example)?;
+        *place = tell(rt, example)?;
     }
     Ok(exit_code(&as_written))
+}
+
+fn main(rt: HostRuntime) -> ExitCode {
+    match begin(&rt, "examples", ABOUT) {
+        Some(end) => end,
+        None => ended(&rt, "examples", run(&rt)),
+    }
 }

@@ -64,7 +64,8 @@ pub fn hold_sale<R: Read + Drop, W: Write>(
     reader: R,
     writer: &mut W,
 ) -> Result<u8, SaleError>
-    ensures { HoldsSale (R.remaining reader) (W.contents writer.old) (W.contents writer.new) result }
+    ensures { HoldsSale (R.remaining reader) (W.contents writer.old) (W.contents writer.new)
+        result }
 {
     let report = report_from(heap, reader)?;
     write_whole(writer, &report.bytes).map_err(SaleError::Writing)?;

@@ -5,6 +5,7 @@
 ghost use Rattle.std.specs.Process.{exit_status};
 ghost use Rattle.sale.specs.Running.{Ends};
 
+use arguments::{NOT_DONE, begin};
 use file::{accepted_files_keep_limits, hold_sale, page_laws_stand};
 use room::promise_stands;
 use std::alloc::Global;
@@ -12,8 +13,8 @@ use std::io;
 use std::io::{Read, Write};
 use std::process::ExitCode;
 
-// The status of a run that did not get its report printed.
-const NOT_PRINTED: u8 = 2;
+// What `--help` tells.
+const ABOUT: &str = "Reads a sale file from standard input, holds its sale, and prints the report.";
 
 // Prints the report of the input to the output, or why it does not to the messages.
 fn run<R: Read + Drop, W: Write, M: Write>(
@@ -22,14 +23,15 @@ fn run<R: Read + Drop, W: Write, M: Write>(
     output: &mut W,
     messages: &mut M,
 ) -> ExitCode
-    ensures { Ends (R.remaining input) (W.contents output.old) (W.contents output.new) (exit_status result) }
+    ensures { Ends (R.remaining input) (W.contents output.old) (W.contents output.new)
+        (exit_status result) }
 {
     match hold_sale(heap, input, output) {
         Ok(status) => ExitCode::from(status),
         Err(e) => {
             // Where this cannot be written either, the status still tells.
             let _ = writeln!(messages, "sale: {e}");
-            ExitCode::from(NOT_PRINTED)
+            ExitCode::from(NOT_DONE)
         }
     }
 }
@@ -38,10 +40,13 @@ fn main(rt: HostRuntime) -> ExitCode {
     promise_stands();
     accepted_files_keep_limits();
     page_laws_stand();
-    run(
-        rt.alloc(),
-        rt.reader(),
-        &mut io::writer(&rt),
-        &mut rt.stderr(),
-    )
+    match begin(&rt, "sale", ABOUT) {
+        Some(end) => end,
+        None => run(
+            rt.alloc(),
+            rt.reader(),
+            &mut io::writer(&rt),
+            &mut rt.stderr(),
+        ),
+    }
 }

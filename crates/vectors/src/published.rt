@@ -42,7 +42,8 @@ fn permutes_to<E: Engine>(engine: &E, block: &mut [u8; KECCAK_BYTES], digits: &s
 
 /// Has an engine of Delirium permute zeros, and what comes of them once more, and counts the published values met.
 pub fn try_keccak<E: Engine>(engine: &E) -> Tally
-    ensures { result ≡ tally (keccak_trials (E.kind engine.now) KECCAK_ONCE.now KECCAK_TWICE.now) }
+    ensures { let trials = keccak_trials (E.kind engine.now) KECCAK_ONCE.now KECCAK_TWICE.now in
+        result ≡ tally trials }
 {
     let mut block = [0u8; KECCAK_BYTES];
     let once = permutes_to(engine, &mut block, KECCAK_ONCE);
@@ -60,7 +61,8 @@ fn absorb<E: Engine>(
     second: u8,
 ) -> Result<(), EngineFault>
     ensures answer { result ≡ at_22_bytes (E.kind engine.now) tt }
-    ensures state { state.new ≡ one_after (E.kind engine.now) (xor_of state.old (first ∷ second ∷ [])) }
+    ensures state { let absorbed = xor_of state.old (first ∷ second ∷ []) in
+        state.new ≡ one_after (E.kind engine.now) absorbed }
 {
     state[0] ^= first;
     state[1] ^= second;
@@ -70,7 +72,8 @@ fn absorb<E: Engine>(
 // Absorbs a message into the state, and 80 (hexadecimal) after it, and a zero where there is room.
 fn absorb_all<E: Engine>(engine: &E, state: &mut State, message: &[u8]) -> Result<(), EngineFault>
     ensures answer { result ≡ at_22_bytes (E.kind engine.now) tt }
-    ensures state { OnOk result (state.new ≡ sponge_state (permutation (E.kind engine.now)) state.old message.now) }
+    ensures state { let f = permutation (E.kind engine.now) in
+        OnOk result (state.new ≡ sponge_state f state.old message.now) }
 {
     let mut rest = message;
     while let [first, second, more @ ..] = rest {
@@ -85,7 +88,8 @@ fn absorb_all<E: Engine>(engine: &E, state: &mut State, message: &[u8]) -> Resul
 
 // Squeezes a digest from the state.
 fn squeeze<E: Engine>(engine: &E, state: &mut State) -> Result<[u8; DIGEST_BYTES], EngineFault>
-    ensures { result ≡ at_22_bytes (E.kind engine.now) (sponge_output (permutation (E.kind engine.now)) 10 state.old) }
+    ensures { let v = E.kind engine.now in
+        result ≡ at_22_bytes v (sponge_output (permutation v) 10 state.old) }
 {
     let mut digest = [0u8; DIGEST_BYTES];
     for k in 0..DIGEST_BYTES / 2 {

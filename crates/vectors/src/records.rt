@@ -133,9 +133,11 @@ impl Answers {
     // Adds what a group of lines says.
     fn take(&mut self, heap: Global, variant: Variant, lines: &[&str]) -> Result<(), AllocError>
         ensures answers { let said = answer_of_lines variant (texts lines.now) in
-            OnOk result ((readings_seen self.new).answers ≡ (readings_seen self.old).answers ++ option_to_list (result_ok said)) }
+            let old = readings_seen self.old in let new = readings_seen self.new in
+            OnOk result (new.answers ≡ old.answers ++ option_to_list (result_ok said)) }
         ensures faults { let said = answer_of_lines variant (texts lines.now) in
-            OnOk result ((readings_seen self.new).faults ≡ (readings_seen self.old).faults ++ option_to_list (result_err said)) }
+            let old = readings_seen self.old in let new = readings_seen self.new in
+            OnOk result (new.faults ≡ old.faults ++ option_to_list (result_err said)) }
     {
         match Record::parse(heap, variant, lines) {
             Ok(record) => self.records.push(record)?,

@@ -63,7 +63,8 @@ fn agrees<E: Engine>(heap: Global, engine: &E, known: &Record) -> Result<bool, A
 
 // Whether the text is sealed to the record's sealed text and tag.
 fn seals<E: Engine>(heap: Global, engine: &E, known: &Record) -> Result<bool, AllocError>
-    ensures { IfOk result (λ b. b ≡ sealing_agreement (E.kind engine.now) (known_answer known.now)) }
+    ensures { let a = known_answer known.now in
+        IfOk result (λ b. b ≡ sealing_agreement (E.kind engine.now) a) }
 {
     let mut sealed = vec![in heap; 0u8; known.sealed.len()]?;
     let mut tag = vec![in heap; 0u8; known.tag.len()]?;
@@ -107,7 +108,8 @@ fn opens<E: Engine>(heap: Global, engine: &E, known: &Record) -> Result<bool, Al
 // Whether the sealed text is refused as wrong under its tag with one bit changed, another one from record to record.
 fn refuses_changed<E: Engine>(heap: Global, engine: &E, known: &Record) -> Result<bool, AllocError>
     ensures { let a = known_answer known.now in
-        IfOk result (λ b. b ≡ refusal_of_tag (checking (E.kind engine.now) a (changed a.number a.tag))) }
+        let tag_place = changed a.number a.tag in
+        IfOk result (λ b. b ≡ refusal_of_tag (checking (E.kind engine.now) a tag_place)) }
 {
     let mut tag = Vec::from_slice(heap, &known.tag)?;
     change_bit(&mut tag, known.number);
