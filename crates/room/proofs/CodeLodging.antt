@@ -13,6 +13,7 @@ use Rattle.envelope.specs.Heads.{lot_of, bidder_of, sequence_of}
 use Rattle.envelope.specs.declared.heads.HeadFields.{HeadFields}
 use Rattle.envelope.specs.Envelopes.{envelope_size, tag_part, right_tag}
 use Rattle.envelope.specs.Parts.{BidParts, bid_of}
+use Rattle.envelope.proofs.Laws.{head_back}
 use Rattle.room.specs.Sales.{Bytes, registered, key_of, tag_due}
 use Rattle.room.specs.Rooms.{Contents, register_of, sale_of, kept_for, sequence_in, filled, holding_of}
 use Rattle.room.specs.Calls.{Lodging, Asking, Answer, answer_to, room_after, head_checks, tag_checks, fields_of, lodging_checks, holding, PlainFields, plain_fields, place_after, Met}
@@ -133,7 +134,7 @@ module _ (v : Variant) (lot : ℕ) (terms : Bytes) (xs : List Slot) (e : Bytes) 
         way_granted under h =
             let none = none_fails h in
             let k : holding_of v lot (filled (get_or xs i no_slot) head.sequence e) ≡ record { bidder = (get_or xs i no_slot).bidder; key = (get_or xs i no_slot).key; envelope = Some e } =
-            ap (λ n. holding_of v lot (filled (get_or xs i no_slot) n e)) its_sequence ∙ kept_is v lot (get_or xs i no_slot) e read.0 under read.1 at_here (omega (arith, at_up)) in
+            ap (λ n. holding_of v lot (filled (get_or xs i no_slot) n e)) its_sequence ∙ kept_is v lot (get_or xs i no_slot) e read.0 (head_back e (omega (arith, read.0)) under) read.1 at_here (omega (arith, at_up)) in
             record {
               answers = ap (λ n. Ok n) its_sequence ∙ sym none;
               leaves = rw none (ap (λ hs. holding hs before) (put_at v lot no_slot e xs i _ found.0 at_here at_first k));

@@ -1,6 +1,5 @@
 -- Facts about the slots of a room: the first slot of a bidder, and the envelope that a slot keeps.
 use Rattle.std.proofs.Common.{◌≡◌, ℕ, zero, suc, ◌+◌, ◌^◌, ◌<◌, ◌≤◌, Bool, true, false, cond, eqb, List, [], ◌∷◌, ◌++◌, map, length, get_or, take, drop, set, Some, None, Ok, Err, Result, sym, refl, ap, ◌∙◌, subst, ap₂, add-one, arith}
-use Rattle.std.specs.Int.Digits.{AllBelowBase}
 use Rattle.std.specs.List.Sorted.{IsStrictlyIncreasing}
 use Rattle.std.proofs.lemmas.Bool.{ne_eqb, eq-eqb, eqb-true}
 use Rattle.std.proofs.lemmas.List.{take_at, drop-drop, take-append-drop, length-drop, map-set, set-get_or, take-map}
@@ -10,7 +9,6 @@ use Rattle.cipher.specs.Mode.{tag_size}
 use Rattle.envelope.specs.Heads.{head, lot_of, bidder_of, sequence_of}
 use Rattle.envelope.specs.Envelopes.{envelope_size, sealed_part, tag_part}
 use Rattle.envelope.proofs.HeadLaws.{sequence_back}
-use Rattle.envelope.proofs.Laws.{head_back}
 use Rattle.room.specs.Sales.{Bytes, registered, key_of}
 use Rattle.envelope.specs.Parts.{BidParts}
 use Rattle.room.specs.Reading.{filled_by}
@@ -39,12 +37,16 @@ whole e =
     ∙ ap (λ r. take 12 e ++ r) (take-append-drop 64 (drop 12 e))
     ∙ take-append-drop 12 e
 
-pub kept_is : (v : Variant) (lot : ℕ) (x : Slot) (e : Bytes) → length e ≡ envelope_size v → AllBelowBase 256 e → lot_of e ≡ lot → x.bidder ≡ bidder_of e → 0 < sequence_of e
+-- The head of an envelope is that of what it names: so it is wherever it is made of bytes.
+abbrev pub HasHead : Bytes → Type 0
+HasHead e = head (lot_of e) (bidder_of e) (sequence_of e) ≡ take 12 e
+
+pub kept_is : (v : Variant) (lot : ℕ) (x : Slot) (e : Bytes) → length e ≡ envelope_size v → HasHead e → lot_of e ≡ lot → x.bidder ≡ bidder_of e → 0 < sequence_of e
     → holding_of v lot (filled x (sequence_of e) e) ≡ record { bidder = x.bidder; key = x.key; envelope = Some e }
-kept_is v lot x e long under its its_bidder some =
+kept_is v lot x e long its_head its its_bidder some =
     let n : (sequence_of e ≡ 0 → ⊥) = λ z. omega arith in
     let t : length (tag_part e) ≡ tag_size v = length-drop 76 e ∙ omega arith in
-    let h : head lot x.bidder (sequence_of e) ≡ take 12 e = ap₂ (λ l b. head l b (sequence_of e)) (sym its) its_bidder ∙ head_back e (omega arith) under in
+    let h : head lot x.bidder (sequence_of e) ≡ take 12 e = ap₂ (λ l b. head l b (sequence_of e)) (sym its) its_bidder ∙ its_head in
     let k : take (tag_size v) (tag_part e ++ drop (length (tag_part e)) x.tag) ≡ tag_part e = take_at (tag_part e) (drop (length (tag_part e)) x.tag) (tag_size v) t in
     let w : head lot x.bidder (sequence_of e) ++ (sealed_part e ++ take (tag_size v) (tag_part e ++ drop (length (tag_part e)) x.tag)) ≡ e = ap₂ (λ a b. a ++ (sealed_part e ++ b)) h k ∙ whole e in
     rw (ne_eqb (sequence_of e) 0 n) (ap (λ z. record { bidder = x.bidder; key = x.key; envelope = Some z }) w)

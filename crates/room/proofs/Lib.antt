@@ -18,9 +18,10 @@ pub mod Chains
 pub mod Amounts
 pub mod Histories
 pub mod Registers
-pub mod KeptBids
-pub mod OneBidder
-pub mod FourBidders
+pub mod ClosedRooms
+pub mod SealedBids
+pub mod Standings
+pub mod RoomsWith
 pub mod Occurring
 pub mod Whole
 pub mod Lot17
