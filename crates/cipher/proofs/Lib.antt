@@ -1,5 +1,5 @@
 pub mod Bytes
-mod XorLaws
+pub mod XorLaws
 mod StreamLaws
 mod MaskLaws
 mod PartLaws

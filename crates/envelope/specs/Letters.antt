@@ -1,5 +1,5 @@
 -- Letters: what a bidder writes, in 64 bytes whatever it says.
-use Rattle.std.specs.Prelude.{ℕ, ◌+◌, ◌-◌, Bool, true, cond, ◌&&◌, List, [], ◌∷◌, ◌++◌, length, take, drop, replicate, ◌==◌, nat_le, slice_index}
+use Rattle.std.specs.Prelude.{ℕ, ◌+◌, ◌-◌, Bool, true, if◌then◌else◌, ◌&&◌, List, [], ◌∷◌, ◌++◌, length, take, drop, replicate, ◌==◌, nat_le, slice_index}
 use Rattle.std.specs.Int.Digits.{number_from_digits}
 use Rattle.big_endian.specs.Numbers.{bytes_of}
 
@@ -43,4 +43,4 @@ is_lawful xs =
 
 -- The amount that a letter offers: 0 where it is unlawful. Amount 0 withdraws a bid.
 unfoldable pub amount_offered : List ℕ → ℕ
-amount_offered xs = cond (is_lawful xs) (amount_field xs) 0
+amount_offered xs = if is_lawful xs then amount_field xs else 0

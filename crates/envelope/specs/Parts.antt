@@ -1,5 +1,5 @@
 -- The parts of an envelope as they are read: what its head names and the rest, and in the rest the sealed letter and the tag.
-use Rattle.std.specs.Prelude.{ℕ, ◌+◌, cond, List, length, take, drop, Some, None, Option, ◌==◌, nat_le}
+use Rattle.std.specs.Prelude.{ℕ, ◌+◌, if◌then◌else◌, List, length, take, drop, Some, None, Option, ◌==◌, nat_le}
 use Rattle.engine.specs.declared.variants.Variant.{Variant}
 use Rattle.cipher.specs.Mode.{tag_size}
 use Rattle.envelope.specs.Letters.{letter_bytes}
@@ -19,7 +19,7 @@ pub record EnvelopeParts : Type 0 where
 -- The parts of any bytes: none where they are too few for a head.
 abbrev pub parts_answer : List ℕ → Option EnvelopeParts
 parts_answer e =
-    cond (nat_le head_bytes (length e)) (Some (record { lot = lot_of e; bidder = bidder_of e; sequence = sequence_of e; rest = drop head_bytes e })) None
+    if nat_le head_bytes (length e) then Some (record { lot = lot_of e; bidder = bidder_of e; sequence = sequence_of e; rest = drop head_bytes e }) else None
 
 -- The program's parts as plain values.
 abbrev pub parts_seen : Option Parts → Option EnvelopeParts
@@ -39,7 +39,7 @@ rest_size v = letter_bytes + tag_size v
 -- The bid in a head and a rest: none where the rest has another length than in the variant's envelopes.
 abbrev pub sealed_bid_answer : Variant → HeadFields → List ℕ → Option BidParts
 sealed_bid_answer v h rest =
-    cond (length rest == rest_size v) (Some (record { head = h; letter = take letter_bytes rest; tag = drop letter_bytes rest })) None
+    if length rest == rest_size v then Some (record { head = h; letter = take letter_bytes rest; tag = drop letter_bytes rest }) else None
 
 -- The program's bid as plain values.
 abbrev pub bid_seen : SealedBid → BidParts

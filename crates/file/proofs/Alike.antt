@@ -3,7 +3,7 @@ use Rattle.std.proofs.Common.{◌≡◌, ℕ, ◌+◌, cond, ltb, length, take, 
 use Rattle.std.proofs.lemmas.Bool.{lt-ltb, cases_lt, cond-true}
 use Rattle.std.proofs.lemmas.List.{take_all, length-take-le}
 use Rattle.room.specs.Sales.{Bytes}
-use Rattle.file.specs.Contents.{contents_in, with_envelopes, envelopes_in, gathered, nothing}
+use Rattle.file.specs.Contents.{contents_in, with_envelopes, envelopes_in, sale_of_items, unknown_sale}
 use Rattle.file.specs.Form.{Items, broken, items}
 use Rattle.file.specs.Holding.{Tells}
 use Rattle.file.specs.Input.{most_bytes}
@@ -25,7 +25,7 @@ said_alike limit refused said file =
 
 pub contents_in-take : (file : Bytes) → contents_in (take (most_bytes + 1) file) ≡ contents_in file
 contents_in-take file =
-    ap (λ is. with_envelopes (envelopes_in is) (gathered nothing is)) (said_alike most_bytes (broken TooLong) (λ f. items LotNames 1 (lines f)) file)
+    ap (λ is. with_envelopes (envelopes_in is) (sale_of_items unknown_sale is)) (said_alike most_bytes (broken TooLong) (λ f. items LotNames 1 (lines f)) file)
 
 -- so what a report tells of the first bytes it tells of the whole
 pub tells_of_whole : (file : Bytes) (r : Report) → Tells (take (most_bytes + 1) file) r → Tells file r

@@ -8,27 +8,27 @@ use Rattle.file.specs.declared.line.Line.{Line}
 use Rattle.file.specs.declared.line.Section.{Section}
 use Rattle.file.specs.declared.line.Section.TheVariants.{LotNames, LotValues, LotEnd, BidderNames, FirstBidder, Bidders, EnvelopeNames, Envelopes}
 use Rattle.file.specs.declared.reader.Reader.{Reader}
-use Rattle.file.specs.Form.{judged, after_verdict, at_the_end, end, broken, item, items}
-use Rattle.file.specs.Read.{left_of, items_if, first_of, rest_of}
+use Rattle.file.specs.Form.{verdict_on, after_verdict, at_the_end, end, broken, item, items}
+use Rattle.file.specs.Read.{items_left, items_if, first_of, rest_of}
 use Rattle.file.specs.Said.{item_of}
 use Rattle.file.specs.Stepping.{Moves, GivesNext}
-use Rattle.file.specs.Lines.{Lines, finished, torn, line, lengthened, lines}
+use Rattle.file.specs.Lines.{Lines, finished, torn, line, lines_with_byte, lines}
 use Rattle.file.specs.Fields.{place_of, holds}
 
 -- the place of b one byte on
-place_here : (b c : ℕ) (cs : List ℕ) → eqb c b ≡ true → place_of b (c ∷ cs) ≡ 0
+pub place_here : (b c : ℕ) (cs : List ℕ) → eqb c b ≡ true → place_of b (c ∷ cs) ≡ 0
 unfolding place_of
 place_here b c cs e = rw e refl
 
-place_later : (b c : ℕ) (cs : List ℕ) → eqb c b ≡ false → place_of b (c ∷ cs) ≡ suc (place_of b cs)
+pub place_later : (b c : ℕ) (cs : List ℕ) → eqb c b ≡ false → place_of b (c ∷ cs) ≡ suc (place_of b cs)
 unfolding place_of
 place_later b c cs e = rw e (one-add (place_of b cs))
 
-lines_here : (c : ℕ) (cs : List ℕ) → eqb c 10 ≡ true → lines (c ∷ cs) ≡ line [] (lines cs)
+pub lines_here : (c : ℕ) (cs : List ℕ) → eqb c 10 ≡ true → lines (c ∷ cs) ≡ line [] (lines cs)
 unfolding lines
 lines_here c cs e = rw e refl
 
-lines_later : (c : ℕ) (cs : List ℕ) → eqb c 10 ≡ false → lines (c ∷ cs) ≡ lengthened c (lines cs)
+pub lines_later : (c : ℕ) (cs : List ℕ) → eqb c 10 ≡ false → lines (c ∷ cs) ≡ lines_with_byte c (lines cs)
 unfolding lines
 lines_later c cs e = rw e refl
 
@@ -38,14 +38,14 @@ cut_by c cs true e l ih = lines_here c cs e ∙ sym (ap (λ k. line (take k (c �
 cut_by c cs false e l ih =
     let p = place_later 10 c cs e in
     let h : place_of 10 cs < length cs = omega arith in
-    lines_later c cs e ∙ ap (lengthened c) (ih h) ∙ sym (ap (λ k. line (take k (c ∷ cs)) (lines (drop (suc k) (c ∷ cs)))) p)
+    lines_later c cs e ∙ ap (lines_with_byte c) (ih h) ∙ sym (ap (λ k. line (take k (c ∷ cs)) (lines (drop (suc k) (c ∷ cs)))) p)
 
 cut_first : (bs : List ℕ) → place_of 10 bs < length bs → lines bs ≡ line (take (place_of 10 bs) bs) (lines (drop (suc (place_of 10 bs)) bs))
 cut_first [] l = absurd (omega arith)
 cut_first (c ∷ cs) l = cut_by c cs (eqb c 10) refl l (cut_first cs)
 
-lengthened_open : (c : ℕ) (ls : Lines) → (ls ≡ finished) ⊎ (ls ≡ torn) → lengthened c ls ≡ torn
-lengthened_open c ls h = ⊎_elim (λ e. ap (lengthened c) e) (λ e. ap (lengthened c) e) h
+lengthened_open : (c : ℕ) (ls : Lines) → (ls ≡ finished) ⊎ (ls ≡ torn) → lines_with_byte c ls ≡ torn
+lengthened_open c ls h = ⊎_elim (λ e. ap (lines_with_byte c) e) (λ e. ap (lines_with_byte c) e) h
 
 -- no line is ended where there is no byte 10
 open_by : (c : ℕ) (cs : List ℕ) (t : Bool) → eqb c 10 ≡ t → length (c ∷ cs) ≤ place_of 10 (c ∷ cs) → (length cs ≤ place_of 10 cs → (lines cs ≡ finished) ⊎ (lines cs ≡ torn)) → lines (c ∷ cs) ≡ torn
@@ -70,12 +70,12 @@ unfolding items
 items_torn s n bs h z = rw (cut_torn bs (ltb-false (place_of 10 bs) (length bs) h) z) refl
 
 pub items_line : (s : Section) (n : ℕ) (bs : List ℕ) → holds 10 bs ≡ true
-    → items s n (lines bs) ≡ after_verdict (judged s n (take (place_of 10 bs) bs)) (λ next. items next (n + 1) (lines (drop (place_of 10 bs + 1) bs)))
+    → items s n (lines bs) ≡ after_verdict (verdict_on s n (take (place_of 10 bs) bs)) (λ next. items next (n + 1) (lines (drop (place_of 10 bs + 1) bs)))
 unfolding items
 items_line s n bs h = rw (cut_first bs (ltb-true (place_of 10 bs) (length bs) h)) (rw (add-one (place_of 10 bs)) refl)
 
-left_end : (r : Reader) → length r.rest.now ≡ 0 → left_of r ≡ items_if r.wants r.line finished
-unfolding left_of lines
+left_end : (r : Reader) → length r.rest.now ≡ 0 → items_left r ≡ items_if r.wants r.line finished
+unfolding items_left lines
 left_end r z = ap (λ bs. items_if r.wants r.line (lines bs)) (drop_all 0 r.rest.now (omega arith))
 
 -- a file may end in no other section
@@ -90,14 +90,14 @@ not_the_end EnvelopeNames n h = refl
 not_the_end Envelopes n h = absurd (h refl)
 
 -- what is left at the end of a file
-pub left_refused : (r : Reader) (f : FileFault) → length r.rest.now ≡ 0 → r.wants ≡ Err f → left_of r ≡ broken f
+pub left_refused : (r : Reader) (f : FileFault) → length r.rest.now ≡ 0 → r.wants ≡ Err f → items_left r ≡ broken f
 left_refused r f z w = left_end r z ∙ ap (λ x. items_if x r.line finished) w
 
-pub left_ended : (r : Reader) → length r.rest.now ≡ 0 → r.wants ≡ Ok Envelopes → left_of r ≡ end
+pub left_ended : (r : Reader) → length r.rest.now ≡ 0 → r.wants ≡ Ok Envelopes → items_left r ≡ end
 unfolding items
 left_ended r z w = left_end r z ∙ ap (λ x. items_if x r.line finished) w
 
-pub left_missing : (r : Reader) (s : Section) → length r.rest.now ≡ 0 → r.wants ≡ Ok s → (s ≡ Envelopes → ⊥) → left_of r ≡ broken (Form r.line)
+pub left_missing : (r : Reader) (s : Section) → length r.rest.now ≡ 0 → r.wants ≡ Ok s → (s ≡ Envelopes → ⊥) → items_left r ≡ broken (Form r.line)
 unfolding items
 left_missing r s z w h = left_end r z ∙ ap (λ x. items_if x r.line finished) w ∙ not_the_end s r.line h
 
@@ -111,11 +111,11 @@ moves_on a b c h m =
     (h.0 + m.0, omega arith, omega arith, m.3 ∙ ap (drop m.0) h.2 ∙ drop-drop m.0 h.0 a.rest.now)
 
 -- what a reader gives that began at a, has passed lines that say nothing up to b, and stops at c
-pub gives_line : (a b c : Reader) (l : Line) → left_of b ≡ left_of a → Behind a.rest.now b.rest.now → left_of b ≡ item (item_of l) (left_of c) → Moves b c → GivesNext a (Some (Ok l)) c
+pub gives_line : (a b c : Reader) (l : Line) → items_left b ≡ items_left a → Behind a.rest.now b.rest.now → items_left b ≡ item (item_of l) (items_left c) → Moves b c → GivesNext a (Some (Ok l)) c
 gives_line a b c l e h i m = record { gives = ap first_of (sym i ∙ e); leaves = ap rest_of (sym i ∙ e); goes_on = moves_on a b c h m }
 
-pub gives_fault : (a b : Reader) (f : FileFault) → left_of b ≡ left_of a → left_of b ≡ broken f → GivesNext a (Some (Err f)) b
+pub gives_fault : (a b : Reader) (f : FileFault) → items_left b ≡ items_left a → items_left b ≡ broken f → GivesNext a (Some (Err f)) b
 gives_fault a b f e i = record { gives = ap first_of (sym i ∙ e); leaves = i ∙ ap rest_of (sym i ∙ e); goes_on = tt }
 
-pub gives_end : (a b : Reader) → left_of b ≡ left_of a → left_of b ≡ end → GivesNext a None b
+pub gives_end : (a b : Reader) → items_left b ≡ items_left a → items_left b ≡ end → GivesNext a None b
 gives_end a b e i = record { gives = ap first_of (sym i ∙ e); leaves = i ∙ ap rest_of (sym i ∙ e); goes_on = tt }

@@ -10,9 +10,9 @@ use Rattle.list.specs.declared.faults.ListFault.TheVariants.{EqualEntry, Full}
 use Rattle.list.proofs.Laws.{length_inserted, rising_inserted, rising_empty}
 use Rattle.room.specs.declared.register.RegisterEntry.{RegisterEntry}
 use Rattle.room.specs.Sales.{Bytes, Sale}
-use Rattle.file.specs.Contents.{with_lot, with_register, and_then, enrolled, gathered, said_in, sale_in, nothing}
+use Rattle.file.specs.Contents.{with_lot, with_register, and_then, enrolment, sale_of_items, items_in, sale_in, unknown_sale}
 use Rattle.file.specs.Fields.{holds_comma, field, behind}
-use Rattle.file.specs.Form.{Items, end, broken, item, lot_item, bidder_item, envelope_item, items, Verdict, refused, passed, said, line_must_say, lot_values, variant_of, bidder_values, is_key, judged, after_verdict, at_the_end}
+use Rattle.file.specs.Form.{Items, end, broken, item, lot_item, bidder_item, envelope_item, items, Verdict, refused, passed, said, line_must_say, lot_values, variant_of, bidder_values, is_key, verdict_on, after_verdict, at_the_end}
 use Rattle.file.specs.Numbers.{number_of}
 use Rattle.file.specs.Theorems.{AcceptedFilesKeepLimits}
 use Rattle.file.specs.Hexadecimal.{written_bytes}
@@ -51,7 +51,7 @@ enrolls_by e xs ys false true p q r =
       rising = λ h. subst (Rising order) i (rising_inserted order (by_key_is_total (λ x. x.bidder)) e xs h p);
     }
 
-enrolls : (e : RegisterEntry) (xs ys : List RegisterEntry) → enrolled e xs ≡ Ok ys → Enrolls e xs ys
+enrolls : (e : RegisterEntry) (xs ys : List RegisterEntry) → enrolment e xs ≡ Ok ys → Enrolls e xs ys
 enrolls e xs ys r = enrolls_by e xs ys (has_equal order e xs) (ltb (length xs) 64) refl refl r
 
 keeps_on : (n : ℕ) (R : Result (List RegisterEntry) ListFault) (go_on : List RegisterEntry → Result Sale FileFault) (t : Sale) (P : Type 0)
@@ -59,25 +59,25 @@ keeps_on : (n : ℕ) (R : Result (List RegisterEntry) ListFault) (go_on : List R
 keeps_on n (Ok ys) go_on t P k e = k ys refl e
 keeps_on n (Err f) go_on t P k e = absurd (let z : ◌≡◌ {A = ℕ} 0 1 = cc in omega arith)
 
-gathered_keeps : (is : Items) (s t : Sale) → AllWellFormed is → Within s → gathered s is ≡ Ok t → Within t
-unfolding gathered
+gathered_keeps : (is : Items) (s t : Sale) → AllWellFormed is → Within s → sale_of_items s is ≡ Ok t → Within t
+unfolding sale_of_items
 gathered_keeps end s t w k e = let q : s ≡ t = cc in subst Within q k
 gathered_keeps (broken f) s t w k e = absurd (let z : ◌≡◌ {A = ℕ} 0 1 = cc in omega arith)
 gathered_keeps (item (lot_item lot v terms) is) s t w k e =
     gathered_keeps is (with_lot lot v terms s) t w.1 (record { terms = leb-true (length terms) 64 w.0; few = k.few; rising = k.rising }) e
 gathered_keeps (item (bidder_item n b key) is) s t w k e =
-    keeps_on n (enrolled (record { bidder = b; key = written_bytes key }) s.register) (λ register. gathered (with_register register s) is) t (Within t)
+    keeps_on n (enrolment (record { bidder = b; key = written_bytes key }) s.register) (λ register. sale_of_items (with_register register s) is) t (Within t)
     (λ ys r g. let h = enrolls (record { bidder = b; key = written_bytes key }) s.register ys r in
     gathered_keeps is (with_register ys s) t w.1 (record { terms = k.terms; few = h.few; rising = h.rising k.rising }) g) e
 gathered_keeps (item (envelope_item n d) is) s t w k e = gathered_keeps is s t w.1 k e
 
-grows : (is : Items) (s t : Sale) → gathered s is ≡ Ok t → length s.register ≤ length t.register
-unfolding gathered
+grows : (is : Items) (s t : Sale) → sale_of_items s is ≡ Ok t → length s.register ≤ length t.register
+unfolding sale_of_items
 grows end s t e = let q : s ≡ t = cc in omega (arith, ap (λ x. length x.register) q)
 grows (broken f) s t e = absurd (let z : ◌≡◌ {A = ℕ} 0 1 = cc in omega arith)
 grows (item (lot_item lot v terms) is) s t e = grows is (with_lot lot v terms s) t e
 grows (item (bidder_item n b key) is) s t e =
-    keeps_on n (enrolled (record { bidder = b; key = written_bytes key }) s.register) (λ register. gathered (with_register register s) is) t (length s.register ≤ length t.register)
+    keeps_on n (enrolment (record { bidder = b; key = written_bytes key }) s.register) (λ register. sale_of_items (with_register register s) is) t (length s.register ≤ length t.register)
     (λ ys r g. let h = enrolls (record { bidder = b; key = written_bytes key }) s.register ys r in let u = grows is (with_register ys s) t g in omega (arith, h.more)) e
 grows (item (envelope_item n d) is) s t e = grows is s t e
 
@@ -112,7 +112,7 @@ leads_bidder n true (Some b) key = cond_both (is_key key) (Ok (bidder_item n b k
 leads_bidder n true None key = tt
 leads_bidder n false o key = tt
 
-leads : (s : Section) (n : ℕ) (l : List ℕ) → Early s → Leads (judged s n l)
+leads : (s : Section) (n : ℕ) (l : List ℕ) → Early s → Leads (verdict_on s n l)
 leads LotNames n l h = cond_both (bytes_eq l (codes "lot,variant,terms")) (passed LotValues) (refused (Form n)) Leads (λ e. tt) (λ e. tt)
 leads LotValues n l h = leads_lot n (holds_comma l && holds_comma (behind l)) (number_of (field l)) (variant_of (field (behind l))) (behind (behind l))
 leads LotEnd n l h = cond_both (bytes_eq l []) (passed BidderNames) (refused (Form n)) Leads (λ e. tt) (λ e. tt)
@@ -123,18 +123,18 @@ leads EnvelopeNames n l h = absurd h
 leads Envelopes n l h = absurd h
 
 after_leads : (v : Verdict) (go_on : Section → Items) (s t : Sale) → Leads v
-    → ((next : Section) (u : Sale) → Early next → gathered u (go_on next) ≡ Ok t → 1 ≤ length t.register) → gathered s (after_verdict v go_on) ≡ Ok t → 1 ≤ length t.register
-unfolding gathered
+    → ((next : Section) (u : Sale) → Early next → sale_of_items u (go_on next) ≡ Ok t → 1 ≤ length t.register) → sale_of_items s (after_verdict v go_on) ≡ Ok t → 1 ≤ length t.register
+unfolding sale_of_items
 after_leads (refused f) go_on s t h ih e = absurd (let z : ◌≡◌ {A = ℕ} 0 1 = cc in omega arith)
 after_leads (passed next) go_on s t h ih e = ih next s h e
 after_leads (said (lot_item lot v terms) next) go_on s t h ih e = ih next (with_lot lot v terms s) h e
 after_leads (said (bidder_item n b key) next) go_on s t h ih e =
-    keeps_on n (enrolled (record { bidder = b; key = written_bytes key }) s.register) (λ register. gathered (with_register register s) (go_on next)) t (1 ≤ length t.register)
+    keeps_on n (enrolment (record { bidder = b; key = written_bytes key }) s.register) (λ register. sale_of_items (with_register register s) (go_on next)) t (1 ≤ length t.register)
     (λ ys r g. let h = enrolls (record { bidder = b; key = written_bytes key }) s.register ys r in let u = grows (go_on next) (with_register ys s) t g in omega (arith, h.more)) e
 after_leads (said (envelope_item n d) next) go_on s t h ih e = absurd h
 
-end_early : (sec : Section) (n : ℕ) (s t : Sale) → Early sec → gathered s (at_the_end sec n) ≡ Ok t → ⊥
-unfolding gathered
+end_early : (sec : Section) (n : ℕ) (s t : Sale) → Early sec → sale_of_items s (at_the_end sec n) ≡ Ok t → ⊥
+unfolding sale_of_items
 end_early LotNames n s t h e = let z : ◌≡◌ {A = ℕ} 0 1 = cc in omega arith
 end_early LotValues n s t h e = let z : ◌≡◌ {A = ℕ} 0 1 = cc in omega arith
 end_early LotEnd n s t h e = let z : ◌≡◌ {A = ℕ} 0 1 = cc in omega arith
@@ -144,24 +144,24 @@ end_early Bidders n s t h e = h
 end_early EnvelopeNames n s t h e = h
 end_early Envelopes n s t h e = h
 
-some_bidder : (ls : Lines) (sec : Section) (n : ℕ) (s t : Sale) → Early sec → gathered s (items sec n ls) ≡ Ok t → 1 ≤ length t.register
-unfolding gathered items
+some_bidder : (ls : Lines) (sec : Section) (n : ℕ) (s t : Sale) → Early sec → sale_of_items s (items sec n ls) ≡ Ok t → 1 ≤ length t.register
+unfolding sale_of_items items
 some_bidder finished sec n s t h e = absurd (end_early sec n s t h e)
 some_bidder torn sec n s t h e = absurd (let z : ◌≡◌ {A = ℕ} 0 1 = cc in omega arith)
 some_bidder (line l ls) sec n s t h e =
-    after_leads (judged sec n l) (λ next. items next (n + 1) ls) s t (leads sec n l h) (λ next u k g. some_bidder ls next (n + 1) u t k g) e
+    after_leads (verdict_on sec n l) (λ next. items next (n + 1) ls) s t (leads sec n l h) (λ next u k g. some_bidder ls next (n + 1) u t k g) e
 
 said_some : (file : Bytes) (s : Sale) → sale_in file ≡ Ok s → 1 ≤ length s.register
-unfolding gathered
+unfolding sale_of_items
 said_some file s =
-    cond_both (ltb most_bytes (length file)) (broken TooLong) (items LotNames 1 (lines file)) (λ is. gathered nothing is ≡ Ok s → 1 ≤ length s.register)
-    (λ p e. absurd (let z : ◌≡◌ {A = ℕ} 0 1 = cc in omega arith)) (λ p e. some_bidder (lines file) LotNames 1 nothing s tt e)
+    cond_both (ltb most_bytes (length file)) (broken TooLong) (items LotNames 1 (lines file)) (λ is. sale_of_items unknown_sale is ≡ Ok s → 1 ≤ length s.register)
+    (λ p e. absurd (let z : ◌≡◌ {A = ℕ} 0 1 = cc in omega arith)) (λ p e. some_bidder (lines file) LotNames 1 unknown_sale s tt e)
 
-said_well_formed : (file : Bytes) → AllWellFormed (said_in file)
+said_well_formed : (file : Bytes) → AllWellFormed (items_in file)
 said_well_formed file = cond_both (ltb most_bytes (length file)) (broken TooLong) (items LotNames 1 (lines file)) AllWellFormed (λ e. tt) (λ e. items_well_formed LotNames 1 (lines file))
 
 -- the sale of a file that is accepted
 pub accepted_keeps_limits : AcceptedFilesKeepLimits
 accepted_keeps_limits file s e =
-    let w = gathered_keeps (said_in file) nothing s (said_well_formed file) (record { terms = omega arith; few = omega arith; rising = rising_empty order }) e in
+    let w = gathered_keeps (items_in file) unknown_sale s (said_well_formed file) (record { terms = omega arith; few = omega arith; rising = rising_empty order }) e in
     record { terms = w.terms; some = said_some file s e; few = w.few; rising = w.rising }

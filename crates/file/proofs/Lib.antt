@@ -11,3 +11,14 @@ pub mod Takes
 pub mod Through
 pub mod Digits
 pub mod Held
+pub mod Texts
+pub mod Commas
+pub mod Decimals
+pub mod HexTexts
+pub mod LineTexts
+pub mod Enrolments
+pub mod FormatItems
+pub mod FormatBack
+pub mod FormatLaws
+pub mod Leaving
+pub mod Leaves

@@ -6,9 +6,9 @@ use Rattle.engine.specs.declared.variants.Variant.{Variant}
 use Rattle.file.specs.Lines.{Lines, finished, torn, line, lines}
 use Rattle.file.specs.Fields.{holds_comma, field, behind}
 use Rattle.file.specs.Numbers.{number_of}
-use Rattle.file.specs.Form.{Item, lot_item, bidder_item, envelope_item, variant_of, lot_values, is_key, bidder_values, bidder_line_item, is_envelope, envelope_line_item, Verdict, refused, passed, said, line_must_be, line_must_say, judged, Items, end, broken, item, after_verdict, at_the_end, items}
+use Rattle.file.specs.Form.{Item, lot_item, bidder_item, envelope_item, variant_of, lot_values, is_key, bidder_values, bidder_line_item, is_envelope, envelope_line_item, Verdict, refused, passed, said, line_must_be, line_must_say, verdict_on, Items, end, broken, item, after_verdict, at_the_end, items}
 use Rattle.file.specs.Said.{WellFormed}
-use Rattle.file.specs.Read.{left_of, items_if, first_of, rest_of}
+use Rattle.file.specs.Read.{items_left, items_if, first_of, rest_of}
 use Rattle.file.specs.declared.faults.FileFault.{FileFault}
 use Rattle.file.specs.declared.faults.FileFault.TheVariants.{Form, TermsLength}
 use Rattle.file.specs.declared.reader.Reader.{Reader}
@@ -43,7 +43,7 @@ fair_bidder n false o key next = tt
 fair_envelope : (n : ℕ) (l : List ℕ) (next : Section) → Fair (line_must_say (envelope_line_item n l) next)
 fair_envelope n l next = cond_both (is_envelope l) (Ok (envelope_item n l)) (Err (Form n)) (λ r. Fair (line_must_say r next)) (λ e. e) (λ e. tt)
 
-fair : (s : Section) (n : ℕ) (l : List ℕ) → Fair (judged s n l)
+fair : (s : Section) (n : ℕ) (l : List ℕ) → Fair (verdict_on s n l)
 fair LotNames n l = fair_text (codes "lot,variant,terms") LotValues n l
 fair LotValues n l = fair_lot n (holds_comma l && holds_comma (behind l)) (number_of (field l)) (variant_of (field (behind l))) (behind (behind l)) LotEnd
 fair LotEnd n l = fair_text [] BidderNames n l
@@ -73,14 +73,14 @@ pub items_well_formed : (s : Section) (n : ℕ) (ls : Lines) → AllWellFormed (
 unfolding items
 items_well_formed s n finished = end_well_formed s n
 items_well_formed s n torn = tt
-items_well_formed s n (line l ls) = after_fair (judged s n l) (λ next. items next (n + 1) ls) (fair s n l) (λ k. items_well_formed k (n + 1) ls)
+items_well_formed s n (line l ls) = after_fair (verdict_on s n l) (λ next. items next (n + 1) ls) (fair s n l) (λ k. items_well_formed k (n + 1) ls)
 
 left_by : (wants : Result Section FileFault) (n : ℕ) (ls : Lines) → AllWellFormed (items_if wants n ls)
 left_by (Ok s) n ls = items_well_formed s n ls
 left_by (Err f) n ls = tt
 
-pub left_well_formed : (r : Reader) → AllWellFormed (left_of r)
-unfolding left_of
+pub left_well_formed : (r : Reader) → AllWellFormed (items_left r)
+unfolding items_left
 left_well_formed r = left_by r.wants r.line (lines r.rest.now)
 
 pub first_well_formed : (is : Items) (i : Item) → Some (Ok i) ≡ first_of is → AllWellFormed is → WellFormed i

@@ -4,11 +4,11 @@ use Rattle.std.proofs.lemmas.List.{drop-drop}
 use Rattle.std.specs.Result.{result_transpose}
 use Rattle.list.specs.declared.faults.ListFault.{ListFault}
 use Rattle.room.specs.Sales.{Sale}
-use Rattle.file.specs.Contents.{with_register, and_then, or_stop, gathered, enrolled_in}
+use Rattle.file.specs.Contents.{with_register, and_then, or_stop, sale_of_items, bidders_enrolled}
 use Rattle.file.specs.Enrolling.{enrolling_answer, register_after, goes_on, enrols_on, KeepsRest}
 use Rattle.file.specs.Form.{Item, Items, end, broken, item}
 use Rattle.file.specs.Hexadecimal.{written_bytes}
-use Rattle.file.specs.Read.{given, first_of, rest_of}
+use Rattle.file.specs.Read.{given_item, first_of, rest_of}
 use Rattle.file.specs.declared.faults.FileFault.{FileFault}
 use Rattle.file.specs.declared.gathering.Gathering.{Gathering}
 use Rattle.file.specs.declared.line.Line.{Line}
@@ -21,19 +21,19 @@ bidder_of b key = record { bidder = b; key = written_bytes key }
 -- a bidder that is enrolled, or refused
 pub bidder_gathers : (n : ℕ) (R : Result (List RegisterEntry) ListFault) (s t : Sale) (r : Result (Unit {0}) FileFault)
     → r ≡ enrolling_answer n R → t ≡ with_register (register_after R s.register) s → (is : Items)
-    → and_then n R (λ register. gathered (with_register register s) is) ≡ goes_on r t is
+    → and_then n R (λ register. sale_of_items (with_register register s) is) ≡ goes_on r t is
 bidder_gathers n (Ok register) s t r a e is = rw a (rw e refl)
 bidder_gathers n (Err f) s t r a e is = rw a refl
 
 pub bidder_enrols : (n : ℕ) (R : Result (List RegisterEntry) ListFault) (s t : Sale) (r : Result (Unit {0}) FileFault)
     → r ≡ enrolling_answer n R → t ≡ with_register (register_after R s.register) s → (is : Items)
-    → or_stop R s.register (λ register. enrolled_in register is) ≡ enrols_on r t.register is
+    → or_stop R s.register (λ register. bidders_enrolled register is) ≡ enrols_on r t.register is
 bidder_enrols n (Ok register) s t r a e is = rw a (rw e refl)
 bidder_enrols n (Err f) s t r a e is = rw a (sym (ap (λ x. x.register) e))
 
 -- what reading answered is the first of what was left
-pub gave : (r o : Result (Option Line) FileFault) (f : Option (Result Item FileFault)) → r ≡ o → given (result_transpose r) ≡ f → given (result_transpose o) ≡ f
-gave r o f e g = ap (λ x. given (result_transpose x)) (sym e) ∙ g
+pub gave : (r o : Result (Option Line) FileFault) (f : Option (Result Item FileFault)) → r ≡ o → given_item (result_transpose r) ≡ f → given_item (result_transpose o) ≡ f
+gave r o f e g = ap (λ x. given_item (result_transpose x)) (sym e) ∙ g
 
 -- a function of what is left, over the line that a reader gave
 pub over_first : {X : Type 0} (F : Items → X) (L rest : Items) (i : Item) (x : X) → Some (Ok i) ≡ first_of L → rest ≡ rest_of L → F L ≡ x → F (item i rest) ≡ x

@@ -1,29 +1,29 @@
 -- Lines of a file gone through one after the other, their envelopes lodged.
 use Rattle.std.proofs.Common.{◌≡◌, ℕ, List, [], ◌∷◌, ◌++◌, map, Some, None, Ok, Err, sym, refl, ap, ◌∙◌, subst, Bor}
-use Rattle.room.proofs.Histories.{runs_on}
+use Rattle.room.proofs.HistoryLaws.{runs_on}
 use Rattle.room.specs.declared.state.RoomState.{RoomState}
 use Rattle.file.specs.Read.{first_of, rest_of}
 use Rattle.file.proofs.Sound.{first_then, first_broken, first_ended}
 use Rattle.file.specs.declared.faults.FileFault.{FileFault}
 use Rattle.std.proofs.lemmas.List.{append_assoc}
 use Rattle.engine.specs.declared.variants.Variant.{Variant}
-use Rattle.room.specs.Rooms.{contents}
-use Rattle.room.specs.Calls.{Lodging, answer_to, room_after}
-use Rattle.room.specs.Runs.{Meeting, met, none, more, calls_of}
+use Rattle.room.specs.Rooms.{contents_of}
+use Rattle.room.specs.Calls.{LodgingOf, answer_to, room_after}
+use Rattle.room.specs.Runs.{Meeting, met_with, none, more, calls_of}
 use Rattle.room.specs.Sales.{Bytes}
 use Rattle.file.specs.Contents.{Sent, envelopes_in}
 use Rattle.file.specs.Form.{Item, Items, item}
 use Rattle.file.specs.Hexadecimal.{written_bytes}
-use Rattle.file.specs.Report.{two_values, answer_number, answer_lines, lodged_all}
+use Rattle.file.specs.Report.{two_values, answer_number, answer_lines, room_after_all}
 use Rattle.file.specs.Said.{item_of}
-use Rattle.file.specs.Stepwise.{lodging_of, LodgesOne, GoesThrough}
+use Rattle.file.specs.Stepwise.{lodging_call, LodgesOne, GoesThrough}
 use Rattle.file.specs.declared.line.Line.{Line}
 use Rattle.file.specs.declared.line.Line.TheVariants.{Lot, Bidder, Envelope}
 
 -- calls one after the other
 pub calls_on : (ms ns : List Meeting) → calls_of (ms ++ ns) ≡ calls_of ms ++ calls_of ns
 calls_on [] ns = refl
-calls_on (met c a ∷ ms) ns = ap (λ cs. c ∷ cs) (calls_on ms ns)
+calls_on (met_with c a ∷ ms) ns = ap (λ cs. c ∷ cs) (calls_on ms ns)
 
 module _ (v : Variant) where
   -- a line that is no envelope
@@ -39,19 +39,19 @@ module _ (v : Variant) where
 
   pub through_envelope : (out out' : Bytes) (s s' : RoomState) (l : Line) (n : ℕ) (d : Bor (List ℕ)) → l ≡ Envelope n d
       → LodgesOne v out s (sent n d.now) out' s' → (is : Items) → GoesThrough v out s (envelopes_in (item (item_of l) is)) out' s' (envelopes_in is)
-  unfolding envelopes_in answer_lines lodged_all
+  unfolding envelopes_in answer_lines room_after_all
   through_envelope out out' s s' l n d e one is =
       let q : envelopes_in (item (item_of l) is) ≡ sent n d.now ∷ envelopes_in is = ap (λ z. envelopes_in (item (item_of z) is)) e in
-      let printed = two_values n (answer_number (answer_to (contents v s) (Lodging (written_bytes d.now)))) in
+      let printed = two_values n (answer_number (answer_to (contents_of v s) (LodgingOf (record { envelope = written_bytes d.now })))) in
       record {
-        prints = ap (λ z. z ++ answer_lines (contents v s') (envelopes_in is)) one.prints
+        prints = ap (λ z. z ++ answer_lines (contents_of v s') (envelopes_in is)) one.prints
             ∙ ap (λ z. (out ++ printed) ++ answer_lines z (envelopes_in is)) one.meets.leaves
-            ∙ append_assoc out printed (answer_lines (room_after (contents v s) (Lodging (written_bytes d.now))) (envelopes_in is))
-            ∙ ap (λ es. out ++ answer_lines (contents v s) es) (sym q);
-        leaves = ap (λ z. lodged_all z (envelopes_in is)) one.meets.leaves ∙ ap (lodged_all (contents v s)) (sym q);
-        meetings = met (Lodging (written_bytes d.now)) (answer_to (contents v s) (Lodging (written_bytes d.now))) ∷ [];
+            ∙ append_assoc out printed (answer_lines (room_after (contents_of v s) (LodgingOf (record { envelope = written_bytes d.now }))) (envelopes_in is))
+            ∙ ap (λ es. out ++ answer_lines (contents_of v s) es) (sym q);
+        leaves = ap (λ z. room_after_all z (envelopes_in is)) one.meets.leaves ∙ ap (room_after_all (contents_of v s)) (sym q);
+        meetings = met_with (LodgingOf (record { envelope = written_bytes d.now })) (answer_to (contents_of v s) (LodgingOf (record { envelope = written_bytes d.now }))) ∷ [];
         runs = more one.meets none;
-        lodges = ap (map lodging_of) (sym q);
+        lodges = ap (map lodging_call) (sym q);
       }
 
   pub through_more : (out out' out'' : Bytes) (s s' s'' : RoomState) (es es' es'' : List Sent)
@@ -61,19 +61,19 @@ module _ (v : Variant) where
     leaves = b.leaves ∙ a.leaves;
     meetings = a.meetings ++ b.meetings;
     runs = runs_on a.runs b.runs;
-    lodges = ap (λ cs. cs ++ map lodging_of es'') (calls_on a.meetings b.meetings)
-        ∙ append_assoc (calls_of a.meetings) (calls_of b.meetings) (map lodging_of es'')
+    lodges = ap (λ cs. cs ++ map lodging_call es'') (calls_on a.meetings b.meetings)
+        ∙ append_assoc (calls_of a.meetings) (calls_of b.meetings) (map lodging_call es'')
         ∙ ap (λ cs. calls_of a.meetings ++ cs) b.lodges
         ∙ a.lodges;
   }
 
   pub through_start : (out : Bytes) (s : RoomState) (L L' : Items) → L ≡ L' → GoesThrough v out s (envelopes_in L') out s (envelopes_in L)
   through_start out s L L' e = record {
-    prints = ap (λ z. out ++ answer_lines (contents v s) (envelopes_in z)) e;
-    leaves = ap (λ z. lodged_all (contents v s) (envelopes_in z)) e;
+    prints = ap (λ z. out ++ answer_lines (contents_of v s) (envelopes_in z)) e;
+    leaves = ap (λ z. room_after_all (contents_of v s) (envelopes_in z)) e;
     meetings = [];
     runs = none;
-    lodges = ap (λ z. map lodging_of (envelopes_in z)) e;
+    lodges = ap (λ z. map lodging_call (envelopes_in z)) e;
   }
 
   -- one more line, above an engine of the same variant

@@ -1,5 +1,5 @@
 -- The contents of a sale file: its lot, variant and terms, its register by rising bidder, and its envelopes with their lines.
-use Rattle.std.specs.Prelude.{ℕ, cond, List, [], ◌∷◌, length, Ok, Err, Result, nat_lt}
+use Rattle.std.specs.Prelude.{ℕ, if◌then◌else◌, List, [], ◌∷◌, length, Ok, Err, Result, nat_lt}
 use Rattle.engine.specs.declared.variants.Variant.{Variant}
 use Rattle.engine.specs.declared.variants.Variant.TheVariants.{Dumbo}
 use Rattle.list.specs.Insertion.{has_equal, list_with}
@@ -22,15 +22,16 @@ pub record Sent : Type 0 where
   pub envelope : Bytes
 
 -- What a file holds: what its room is made of, and its envelopes.
-pub record Contents : Type 0 where
+pub record FileContents : Type 0 where
   pub sale : Sale
   pub envelopes : List Sent
 
 -- The register with one more bidder, at its place in the order: an equal bidder is refused first, then the 65th.
-abbrev pub enrolled : RegisterEntry → List RegisterEntry → Result (List RegisterEntry) ListFault
-enrolled e register =
-    cond (has_equal (by_key (λ x. x.bidder)) e register) (Err EqualEntry)
-    (cond (nat_lt (length register) 64) (Ok (list_with (by_key (λ x. x.bidder)) e register)) (Err Full))
+abbrev pub enrolment : RegisterEntry → List RegisterEntry → Result (List RegisterEntry) ListFault
+enrolment e register =
+    if has_equal (by_key (λ x. x.bidder)) e register then Err EqualEntry
+    else if nat_lt (length register) 64 then Ok (list_with (by_key (λ x. x.bidder)) e register)
+    else Err Full
 
 -- A sale with other values of the lot, and with another register.
 abbrev pub with_lot : ℕ → Variant → Bytes → Sale → Sale
@@ -45,13 +46,13 @@ and_then n (Ok register) go_on = go_on register
 and_then n (Err f) go_on = Err (ByList n f)
 
 -- The sale that a file's lines say, gathered line by line: s is what was gathered so far.
-unfoldable pub gathered : Sale → Items → Result Sale FileFault
-gathered s end = Ok s
-gathered s (broken f) = Err f
-gathered s (item (lot_item lot variant terms) is) = gathered (with_lot lot variant terms s) is
-gathered s (item (bidder_item n bidder key) is) =
-    and_then n (enrolled (record { bidder = bidder; key = written_bytes key }) s.register) (λ register. gathered (with_register register s) is)
-gathered s (item (envelope_item n digits) is) = gathered s is
+unfoldable pub sale_of_items : Sale → Items → Result Sale FileFault
+sale_of_items s end = Ok s
+sale_of_items s (broken f) = Err f
+sale_of_items s (item (lot_item lot variant terms) is) = sale_of_items (with_lot lot variant terms s) is
+sale_of_items s (item (bidder_item n bidder key) is) =
+    and_then n (enrolment (record { bidder = bidder; key = written_bytes key }) s.register) (λ register. sale_of_items (with_register register s) is)
+sale_of_items s (item (envelope_item n digits) is) = sale_of_items s is
 
 -- The envelopes that a file's lines say.
 unfoldable pub envelopes_in : Items → List Sent
@@ -62,25 +63,25 @@ envelopes_in (item (bidder_item n bidder key) is) = envelopes_in is
 envelopes_in (item (envelope_item n digits) is) = record { at = n; envelope = written_bytes digits } ∷ envelopes_in is
 
 -- What a file says, from its first line on: one that has too many bytes is refused at once.
-abbrev pub said_in : Bytes → Items
-said_in file = cond (nat_lt most_bytes (length file)) (broken TooLong) (items LotNames 1 (lines file))
+abbrev pub items_in : Bytes → Items
+items_in file = if nat_lt most_bytes (length file) then broken TooLong else items LotNames 1 (lines file)
 
 -- Before the first line nothing is known: no bidders, and the other fields are set by the line of the lot, which comes first.
-abbrev pub nothing : Sale
-nothing = record { variant = Dumbo; lot = 0; terms = []; register = [] }
+abbrev pub unknown_sale : Sale
+unknown_sale = record { variant = Dumbo; lot = 0; terms = []; register = [] }
 
 -- The sale of a file, or the fault of the first line that breaks a rule.
 abbrev pub sale_in : Bytes → Result Sale FileFault
-sale_in file = gathered nothing (said_in file)
+sale_in file = sale_of_items unknown_sale (items_in file)
 
 -- A sale with the file's envelopes.
-abbrev pub with_envelopes : List Sent → Result Sale FileFault → Result Contents FileFault
+abbrev pub with_envelopes : List Sent → Result Sale FileFault → Result FileContents FileFault
 with_envelopes es (Ok s) = Ok (record { sale = s; envelopes = es })
 with_envelopes es (Err f) = Err f
 
 -- The contents of a file, or the fault that refuses it.
-abbrev pub contents_in : Bytes → Result Contents FileFault
-contents_in file = with_envelopes (envelopes_in (said_in file)) (sale_in file)
+abbrev pub contents_in : Bytes → Result FileContents FileFault
+contents_in file = with_envelopes (envelopes_in (items_in file)) (sale_in file)
 
 -- Enrolling goes on with the new register, or stops at the bidders xs so far.
 abbrev pub or_stop : Result (List RegisterEntry) ListFault → List RegisterEntry → (List RegisterEntry → List RegisterEntry) → List RegisterEntry
@@ -88,9 +89,9 @@ or_stop (Ok register) xs go_on = go_on register
 or_stop (Err f) xs go_on = xs
 
 -- The bidders enrolled up to the file's end, or up to the line that is refused: xs are those so far.
-unfoldable pub enrolled_in : List RegisterEntry → Items → List RegisterEntry
-enrolled_in xs end = xs
-enrolled_in xs (broken f) = xs
-enrolled_in xs (item (lot_item lot variant terms) is) = enrolled_in xs is
-enrolled_in xs (item (bidder_item n bidder key) is) = or_stop (enrolled (record { bidder = bidder; key = written_bytes key }) xs) xs (λ register. enrolled_in register is)
-enrolled_in xs (item (envelope_item n digits) is) = enrolled_in xs is
+unfoldable pub bidders_enrolled : List RegisterEntry → Items → List RegisterEntry
+bidders_enrolled xs end = xs
+bidders_enrolled xs (broken f) = xs
+bidders_enrolled xs (item (lot_item lot variant terms) is) = bidders_enrolled xs is
+bidders_enrolled xs (item (bidder_item n bidder key) is) = or_stop (enrolment (record { bidder = bidder; key = written_bytes key }) xs) xs (λ register. bidders_enrolled register is)
+bidders_enrolled xs (item (envelope_item n digits) is) = bidders_enrolled xs is

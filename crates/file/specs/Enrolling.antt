@@ -2,7 +2,7 @@
 use Rattle.std.specs.Prelude.{◌≡◌, ℕ, ◌≤◌, List, take, drop, Ok, Err, Result}
 use Rattle.list.specs.declared.faults.ListFault.{ListFault}
 use Rattle.room.specs.Sales.{Sale}
-use Rattle.file.specs.Contents.{gathered, enrolled_in}
+use Rattle.file.specs.Contents.{sale_of_items, bidders_enrolled}
 use Rattle.file.specs.Form.{Items}
 use Rattle.file.specs.declared.faults.FileFault.{FileFault}
 use Rattle.file.specs.declared.faults.FileFault.TheVariants.{List as ByList}
@@ -40,9 +40,9 @@ sale_so_far g = sale_of g.sale (take g.sale.count g.places.now)
 
 -- What comes of the lines behind one that was taken in, s being the sale so far, or xs the register.
 abbrev pub goes_on : Result (Unit {0}) FileFault → Sale → Items → Result Sale FileFault
-goes_on (Ok taken) s is = gathered s is
+goes_on (Ok taken) s is = sale_of_items s is
 goes_on (Err f) s is = Err f
 
 abbrev pub enrols_on : Result (Unit {0}) FileFault → List RegisterEntry → Items → List RegisterEntry
-enrols_on (Ok taken) xs is = enrolled_in xs is
+enrols_on (Ok taken) xs is = bidders_enrolled xs is
 enrols_on (Err f) xs is = xs

@@ -1,5 +1,5 @@
 -- The form of a sale file: which line may follow which, and what each of them says.
-use Rattle.std.specs.Prelude.{ℕ, ◌+◌, ◌%◌, Bool, true, false, cond, ◌&&◌, [], length, Some, None, Ok, Err, codes, Option, Result, ◌==◌, nat_le, nat_lt}
+use Rattle.std.specs.Prelude.{ℕ, ◌+◌, ◌%◌, Bool, true, false, if◌then◌else◌, ◌&&◌, [], length, Some, None, Ok, Err, codes, Option, Result, ◌==◌, nat_le, nat_lt}
 use Rattle.std.specs.Str.{bytes_eq}
 use Rattle.engine.specs.declared.variants.Variant.{Variant}
 use Rattle.engine.specs.declared.variants.Variant.TheVariants.{Dumbo, Jumbo, Delirium}
@@ -22,13 +22,15 @@ pub data Item : Type 0 where
 -- A variant by its name.
 abbrev pub variant_of : Bytes → Option Variant
 variant_of name =
-    cond (bytes_eq name (codes "dumbo")) (Some Dumbo)
-    (cond (bytes_eq name (codes "jumbo")) (Some Jumbo)
-    (cond (bytes_eq name (codes "delirium")) (Some Delirium) None))
+    if bytes_eq name (codes "dumbo") then Some Dumbo
+    else if bytes_eq name (codes "jumbo") then Some Jumbo
+    else if bytes_eq name (codes "delirium") then Some Delirium
+    else None
 
 -- Line n as the values of the lot: a number, a variant, and the terms from behind the second comma to the line's end, at most 64 bytes.
 abbrev pub lot_values : ℕ → Bool → Option ℕ → Option Variant → Bytes → Result Item FileFault
-lot_values n true (Some lot) (Some variant) terms = cond (nat_le (length terms) 64) (Ok (lot_item lot variant terms)) (Err (TermsLength n))
+lot_values n true (Some lot) (Some variant) terms =
+    if nat_le (length terms) 64 then Ok (lot_item lot variant terms) else Err (TermsLength n)
 lot_values n true (Some lot) None terms = Err (Form n)
 lot_values n true None variant terms = Err (Form n)
 lot_values n false lot variant terms = Err (Form n)
@@ -41,7 +43,7 @@ abbrev pub is_key : Bytes → Bool
 is_key digits = length digits == 32 && all_hex_digits digits
 
 abbrev pub bidder_values : ℕ → Bool → Option ℕ → Bytes → Result Item FileFault
-bidder_values n true (Some bidder) key = cond (is_key key) (Ok (bidder_item n bidder key)) (Err (Form n))
+bidder_values n true (Some bidder) key = if is_key key then Ok (bidder_item n bidder key) else Err (Form n)
 bidder_values n true None key = Err (Form n)
 bidder_values n false bidder key = Err (Form n)
 
@@ -53,7 +55,7 @@ abbrev pub is_envelope : Bytes → Bool
 is_envelope l = nat_lt 0 (length l) && (length l % 2 == 0 && all_hex_digits l)
 
 abbrev pub envelope_line_item : ℕ → Bytes → Result Item FileFault
-envelope_line_item n l = cond (is_envelope l) (Ok (envelope_item n l)) (Err (Form n))
+envelope_line_item n l = if is_envelope l then Ok (envelope_item n l) else Err (Form n)
 
 -- What becomes of a line: it is refused, or it is as it must be and says nothing, or it says something; and what must follow it.
 pub data Verdict : Type 0 where
@@ -63,7 +65,7 @@ pub data Verdict : Type 0 where
 
 -- A line that must have one text.
 abbrev pub line_must_be : Bytes → Section → ℕ → Bytes → Verdict
-line_must_be text next n l = cond (bytes_eq l text) (passed next) (refused (Form n))
+line_must_be text next n l = if bytes_eq l text then passed next else refused (Form n)
 
 -- A line that must say something.
 abbrev pub line_must_say : Result Item FileFault → Section → Verdict
@@ -72,15 +74,15 @@ line_must_say (Err f) next = refused f
 
 -- The lines in their order: the names of the lot's values and these, an empty line, the names of a bidder's values, one or more bidders, an
 -- empty line, the name of the envelopes, and these.
-abbrev pub judged : Section → ℕ → Bytes → Verdict
-judged LotNames n l = line_must_be (codes "lot,variant,terms") LotValues n l
-judged LotValues n l = line_must_say (lot_line_item n l) LotEnd
-judged LotEnd n l = line_must_be [] BidderNames n l
-judged BidderNames n l = line_must_be (codes "bidder,key") FirstBidder n l
-judged FirstBidder n l = line_must_say (bidder_line_item n l) Bidders
-judged Bidders n l = cond (bytes_eq l []) (passed EnvelopeNames) (line_must_say (bidder_line_item n l) Bidders)
-judged EnvelopeNames n l = line_must_be (codes "envelope") Envelopes n l
-judged Envelopes n l = line_must_say (envelope_line_item n l) Envelopes
+abbrev pub verdict_on : Section → ℕ → Bytes → Verdict
+verdict_on LotNames n l = line_must_be (codes "lot,variant,terms") LotValues n l
+verdict_on LotValues n l = line_must_say (lot_line_item n l) LotEnd
+verdict_on LotEnd n l = line_must_be [] BidderNames n l
+verdict_on BidderNames n l = line_must_be (codes "bidder,key") FirstBidder n l
+verdict_on FirstBidder n l = line_must_say (bidder_line_item n l) Bidders
+verdict_on Bidders n l = if bytes_eq l [] then passed EnvelopeNames else line_must_say (bidder_line_item n l) Bidders
+verdict_on EnvelopeNames n l = line_must_be (codes "envelope") Envelopes n l
+verdict_on Envelopes n l = line_must_say (envelope_line_item n l) Envelopes
 
 -- What a file says, line by line, up to its end or to the first line that is refused.
 pub data Items : Type 0 where
@@ -109,4 +111,4 @@ at_the_end Envelopes n = end
 unfoldable pub items : Section → ℕ → Lines → Items
 items section n finished = at_the_end section n
 items section n torn = broken (Form n)
-items section n (line l ls) = after_verdict (judged section n l) (λ next. items next (n + 1) ls)
+items section n (line l ls) = after_verdict (verdict_on section n l) (λ next. items next (n + 1) ls)

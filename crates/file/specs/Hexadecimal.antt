@@ -1,5 +1,5 @@
 -- Bytes as a file writes them: each as two lower-case hexadecimal digits, the higher one first.
-use Rattle.std.specs.Prelude.{ℕ, ◌+◌, ◌-◌, ◌*◌, Bool, true, cond, ◌&&◌, ◌||◌, [], ◌∷◌, nat_le, nat_lt}
+use Rattle.std.specs.Prelude.{ℕ, ◌+◌, ◌-◌, ◌*◌, Bool, true, if◌then◌else◌, ◌&&◌, ◌||◌, [], ◌∷◌, nat_le, nat_lt}
 use Rattle.room.specs.Sales.{Bytes}
 
 -- Whether a byte is one of the digits 0 to 9 and a to f, and whether all bytes are.
@@ -12,7 +12,7 @@ all_hex_digits (c ∷ cs) = is_hex_digit c && all_hex_digits cs
 
 -- What a digit is worth: 0 to 9, and a to f for 10 to 15.
 abbrev pub digit_value : ℕ → ℕ
-digit_value c = cond (nat_lt c 97) (c - 48) (c - 87)
+digit_value c = if nat_lt c 97 then c - 48 else c - 87
 
 -- The bytes that digits write, two by two.
 unfoldable pub written_bytes : Bytes → Bytes

@@ -3,6 +3,8 @@ pub mod Enrolling
 pub mod Faults
 pub mod Fields
 pub mod Form
+pub mod Format
+pub mod FormatLaws
 pub mod Hexadecimal
 pub mod Holding
 pub mod Input

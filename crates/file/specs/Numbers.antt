@@ -1,5 +1,5 @@
 -- Numbers as a file writes them: decimal digits without leading zeros, up to 4,294,967,295.
-use Rattle.std.specs.Prelude.{ℕ, ◌+◌, ◌-◌, ◌*◌, Bool, true, cond, not, ◌&&◌, ◌||◌, [], ◌∷◌, length, Some, None, Option, ◌==◌, nat_le, nat_lt, slice_index}
+use Rattle.std.specs.Prelude.{ℕ, ◌+◌, ◌-◌, ◌*◌, Bool, true, if◌then◌else◌, not, ◌&&◌, ◌||◌, [], ◌∷◌, length, Some, None, Option, ◌==◌, nat_le, nat_lt, slice_index}
 use Rattle.room.specs.Sales.{Bytes}
 
 -- Whether a byte is one of the digits 0 to 9, and whether all bytes are.
@@ -17,12 +17,13 @@ value_after n (c ∷ cs) = value_after (n * 10 + (c - 48)) cs
 
 -- The number that digits write, with or without leading zeros, where all bytes are digits and it is at most 4,294,967,295.
 unfoldable pub value_of : Bytes → Option ℕ
-value_of ds = cond (all_digits ds && nat_le (value_after 0 ds) 4294967295) (Some (value_after 0 ds)) None
+value_of ds =
+    if all_digits ds && nat_le (value_after 0 ds) 4294967295 then Some (value_after 0 ds) else None
 
 -- Whether there is a digit, and a leading 0 only where it is all.
-abbrev pub well_led : Bytes → Bool
-well_led ds = nat_lt 0 (length ds) && (not (slice_index ds 0 == 48) || length ds == 1)
+abbrev pub is_well_led : Bytes → Bool
+is_well_led ds = nat_lt 0 (length ds) && (not (slice_index ds 0 == 48) || length ds == 1)
 
 -- The number that bytes write in the form of a file.
 unfoldable pub number_of : Bytes → Option ℕ
-number_of ds = cond (well_led ds) (value_of ds) None
+number_of ds = if is_well_led ds then value_of ds else None

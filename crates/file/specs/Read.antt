@@ -2,7 +2,7 @@
 use Rattle.std.specs.Prelude.{ℕ, Some, None, Ok, Err, Option, Result}
 use Rattle.file.specs.Lines.{Lines, lines}
 use Rattle.file.specs.Form.{Item, Items, end, broken, item, items}
-use Rattle.file.specs.Said.{item_of, said_by}
+use Rattle.file.specs.Said.{item_of, item_said}
 use Rattle.file.specs.declared.faults.FileFault.{FileFault}
 use Rattle.file.specs.declared.line.Line.{Line}
 use Rattle.file.specs.declared.line.Section.{Section}
@@ -14,19 +14,19 @@ items_if (Ok section) n ls = items section n ls
 items_if (Err f) n ls = broken f
 
 -- What is left for a reader to give: what the lines say that it has not read yet.
-unfoldable pub left_of : Reader → Items
-left_of r = items_if r.wants r.line (lines r.rest.now)
+unfoldable pub items_left : Reader → Items
+items_left r = items_if r.wants r.line (lines r.rest.now)
 
 -- What was left before a line that was refused, or said nothing, or said something.
-abbrev pub left_after : Result (Option Line) FileFault → Items → Items
-left_after (Err f) is = broken f
-left_after (Ok None) is = is
-left_after (Ok (Some l)) is = item (item_of l) is
+abbrev pub items_left_after : Result (Option Line) FileFault → Items → Items
+items_left_after (Err f) is = broken f
+items_left_after (Ok None) is = is
+items_left_after (Ok (Some l)) is = item (item_of l) is
 
 -- What a reader gave, borrowed parts as bytes.
-abbrev pub given : Option (Result Line FileFault) → Option (Result Item FileFault)
-given None = None
-given (Some r) = Some (said_by r)
+abbrev pub given_item : Option (Result Line FileFault) → Option (Result Item FileFault)
+given_item None = None
+given_item (Some r) = Some (item_said r)
 
 -- The first that is left to give, and what is left behind it. A line that is refused stays refused.
 abbrev pub first_of : Items → Option (Result Item FileFault)

@@ -12,18 +12,18 @@ item_of (Lot lot variant terms) = lot_item lot variant terms.now
 item_of (Bidder n bidder key) = bidder_item n bidder key.now
 item_of (Envelope n digits) = envelope_item n digits.now
 
-abbrev pub said_by : Result Line FileFault → Result Item FileFault
-said_by (Ok l) = Ok (item_of l)
-said_by (Err f) = Err f
+abbrev pub item_said : Result Line FileFault → Result Item FileFault
+item_said (Ok l) = Ok (item_of l)
+item_said (Err f) = Err f
 
 -- What is made of a line that is admitted: it is passed where it says nothing.
-abbrev pub admitted : Option Line → Section → Verdict
-admitted None next = passed next
-admitted (Some l) next = said (item_of l) next
+abbrev pub admission_verdict : Option Line → Section → Verdict
+admission_verdict None next = passed next
+admission_verdict (Some l) next = said (item_of l) next
 
 abbrev pub verdict_of : Result Step FileFault → Verdict
 verdict_of (Err f) = refused f
-verdict_of (Ok step) = admitted step.said step.next
+verdict_of (Ok step) = admission_verdict step.said step.next
 
 -- What a line that is admitted says: terms within their limit, and the digits of a key or an envelope.
 abbrev pub WellFormed : Item → Type 0

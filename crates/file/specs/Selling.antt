@@ -2,7 +2,7 @@
 use Rattle.std.specs.Prelude.{◌≡◌, ℕ, ⊤, Ok, Err, Option, Result}
 use Rattle.std.specs.Io.KnownBytes.{Appends}
 use Rattle.room.specs.Sales.{Bytes}
-use Rattle.file.specs.Contents.{Contents, contents_in}
+use Rattle.file.specs.Contents.{FileContents, contents_in}
 use Rattle.file.specs.Holding.{WasHeld, Tells}
 use Rattle.file.specs.Input.{IsAllLeft}
 use Rattle.file.specs.Report.{report_of, status_of}
@@ -31,7 +31,7 @@ pub record WritesReport (left before after : Option Bytes) (status : ℕ) : Type
   pub given : IsAllLeft left file
   pub writes : Appends before after (report_of file)
   pub ends : status ≡ status_of file
-  pub held : (c : Contents) → contents_in file ≡ Ok c → WasHeld c
+  pub held : (c : FileContents) → contents_in file ≡ Ok c → WasHeld c
 
 -- A beginning of that report was written at most, and nothing else.
 pub record BreaksOff (left before after : Option Bytes) : Type 0 where

@@ -2,7 +2,7 @@
 use Rattle.std.specs.Prelude.{◌≡◌, ℕ, ◌<◌, ◌≤◌, length, drop, Some, None, Ok, Err, Option, Result}
 use Rattle.file.specs.declared.faults.FileFault.{FileFault}
 use Rattle.file.specs.declared.line.Line.{Line}
-use Rattle.file.specs.Read.{left_of, given, first_of, rest_of}
+use Rattle.file.specs.Read.{items_left, given_item, first_of, rest_of}
 use Rattle.file.specs.declared.reader.Reader.{Reader}
 
 -- Some of the bytes that were left to read are passed, and the others are left.
@@ -22,6 +22,6 @@ GoesOn (Some (Ok l)) before after = Moves before after
 
 -- What one call of a reader does: it gives the first that was left, leaves the rest, and goes on.
 pub record GivesNext (before : Reader) (r : Option (Result Line FileFault)) (after : Reader) : Type 0 where
-  pub gives : given r ≡ first_of (left_of before)
-  pub leaves : left_of after ≡ rest_of (left_of before)
+  pub gives : given_item r ≡ first_of (items_left before)
+  pub leaves : items_left after ≡ rest_of (items_left before)
   pub goes_on : GoesOn r before after

@@ -2,9 +2,9 @@
 use Rattle.std.specs.Prelude.{◌≡◌, ◌≤◌, ◌↔◌, length, Ok}
 use Rattle.list.specs.Order.{Rising, by_key}
 use Rattle.room.specs.Runs.{History, IsClosed, Prints}
-use Rattle.room.specs.Sales.{Bytes, Sale, Among, OneToAHead}
-use Rattle.file.specs.Contents.{Contents, contents_in, sale_in}
-use Rattle.file.specs.Holding.{HeldIn, envelopes_of}
+use Rattle.room.specs.Sales.{Bytes, Sale, Lodging, Among, OneToAHead}
+use Rattle.file.specs.Contents.{FileContents, contents_in, sale_in}
+use Rattle.file.specs.Holding.{HeldIn, lodgings_of}
 use Rattle.file.specs.Report.{page_in}
 
 -- A sale within the limits of a room: at most 64 bytes of terms, and 1 to 64 bidders by strictly rising number.
@@ -22,9 +22,9 @@ AcceptedFilesKeepLimits = (file : Bytes) (s : Sale) → sale_in file ≡ Ok s �
 pub record LawsOfPages : Type 0 where
   -- A room in which the sale of a file was held is closed, and prints the page of the file and no other.
   pub a_room_in_which_the_sale_was_held_prints_the_page :
-      (c : Contents) (x : History) → HeldIn c x → IsClosed x × ((p : Bytes) → Prints x p ↔ (p ≡ page_in c))
+      (c : FileContents) (x : History) → HeldIn c x → IsClosed x × ((p : Bytes) → Prints x p ↔ (p ≡ page_in c))
   -- Two accepted files of one sale, in which the same envelopes stand in whatever order and however often, print the same page, if no two
   -- different genuine ones among them carry one head.
   pub order_and_repetition_do_not_matter :
-      (f g : Bytes) (c d : Contents) → contents_in f ≡ Ok c → contents_in g ≡ Ok d → c.sale ≡ d.sale
-      → ((e : Bytes) → Among (envelopes_of c) e ↔ Among (envelopes_of d) e) → OneToAHead c.sale (envelopes_of c) → page_in c ≡ page_in d
+      (f g : Bytes) (c d : FileContents) → contents_in f ≡ Ok c → contents_in g ≡ Ok d → c.sale ≡ d.sale
+      → ((l : Lodging) → Among (lodgings_of c) l ↔ Among (lodgings_of d) l) → OneToAHead c.sale (lodgings_of c) → page_in c ≡ page_in d

@@ -1,6 +1,6 @@
 // The bidders of a sale file, enrolled one after the other.
 ghost use Rattle.std.specs.Prelude.{◌≡◌, true};
-ghost use Rattle.file.specs.Contents.{enrolled, with_register};
+ghost use Rattle.file.specs.Contents.{enrolment, with_register};
 ghost use Rattle.file.specs.Enrolling.{enrolling_answer, register_after, sale_so_far, KeepsRest};
 ghost use Rattle.file.specs.Form.{is_key};
 ghost use Rattle.file.specs.Hexadecimal.{written_bytes};
@@ -26,8 +26,16 @@ impl Gathering<'_, '_> {
     // Enrolls the bidder of a line. The cipher is asked of the key and never refuses it, since it was tested where its line was read.
     pub(crate) fn enroll(&mut self, line: u32, bidder: u32, key: &[u8]) -> Result<(), FileFault>
         requires { is_key key.now ≡ true }
-        ensures answer { result ≡ enrolling_answer line (enrolled (record { bidder = bidder; key = written_bytes key.now }) (sale_so_far self.old).register) }
-        ensures register { sale_so_far self.new ≡ with_register (register_after (enrolled (record { bidder = bidder; key = written_bytes key.now }) (sale_so_far self.old).register) (sale_so_far self.old).register) (sale_so_far self.old) }
+        ensures answer { result
+            ≡ enrolling_answer line
+            (enrolment (record { bidder = bidder; key = written_bytes key.now })
+            (sale_so_far self.old).register) }
+        ensures register { sale_so_far self.new
+            ≡ with_register
+            (register_after
+            (enrolment (record { bidder = bidder; key = written_bytes key.now })
+            (sale_so_far self.old).register) (sale_so_far self.old).register)
+            (sale_so_far self.old) }
         ensures keeps { KeepsRest self.old self.new }
         ensures same_places { self.new.places.ghost_name ≡ self.old.places.ghost_name }
     {

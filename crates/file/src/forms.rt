@@ -1,7 +1,7 @@
 // What a line says, judged alone.
 ghost use Rattle.std.specs.Prelude.{◌≡◌};
 ghost use Rattle.file.specs.Form.{variant_of, lot_line_item, bidder_line_item, envelope_line_item};
-ghost use Rattle.file.specs.Said.{said_by};
+ghost use Rattle.file.specs.Said.{item_said};
 
 use crate::faults::FileFault;
 use crate::fields::split_once;
@@ -29,7 +29,7 @@ fn variant_named(name: &[u8]) -> Option<Variant>
 
 // Line n as the lot, its variant and its terms. Here and below the number goes along with the text only for the fault and for the case that names it.
 pub(crate) fn lot_line(n: u32, line: &[u8]) -> Result<Line<'_>, FileFault>
-    ensures { said_by result ≡ lot_line_item n line.now }
+    ensures { item_said result ≡ lot_line_item n line.now }
 {
     let broken = FileFault::Form { line: n };
     let (lot, rest) = split_once(line, b',').ok_or(broken)?;
@@ -48,7 +48,7 @@ pub(crate) fn lot_line(n: u32, line: &[u8]) -> Result<Line<'_>, FileFault>
 
 // Line n as a bidder and its key.
 pub(crate) fn bidder_line(n: u32, line: &[u8]) -> Result<Line<'_>, FileFault>
-    ensures { said_by result ≡ bidder_line_item n line.now }
+    ensures { item_said result ≡ bidder_line_item n line.now }
 {
     let broken = FileFault::Form { line: n };
     let (bidder, key) = split_once(line, b',').ok_or(broken)?;
@@ -65,7 +65,7 @@ pub(crate) fn bidder_line(n: u32, line: &[u8]) -> Result<Line<'_>, FileFault>
 
 // Line n as an envelope.
 pub(crate) fn envelope_line(n: u32, line: &[u8]) -> Result<Line<'_>, FileFault>
-    ensures { said_by result ≡ envelope_line_item n line.now }
+    ensures { item_said result ≡ envelope_line_item n line.now }
 {
     if line.is_empty() || line.len() % 2 != 0 || !are_digits(line) {
         return Err(FileFault::Form { line: n });

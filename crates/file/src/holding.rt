@@ -1,8 +1,8 @@
 // The sale of a file, held in a room from its making to its page.
 ghost use Rattle.std.specs.Prelude.{◌≡◌, ◌++◌, true};
 ghost use Rattle.room.specs.Calls.{is_closed, page_of_room};
-ghost use Rattle.room.specs.Rooms.{contents};
-ghost use Rattle.file.specs.Contents.{said_in, envelopes_in};
+ghost use Rattle.room.specs.Rooms.{contents_of};
+ghost use Rattle.file.specs.Contents.{items_in, envelopes_in};
 ghost use Rattle.file.specs.Enrolling.{sale_of};
 ghost use Rattle.file.specs.Stepwise.{OrLacksMemory, Reports, HoldsFile};
 ghost use Rattle.file.specs.Theorems.{KeepsLimits};
@@ -22,7 +22,8 @@ use std::alloc::Global;
 // Opens a closed room and adds its page.
 fn add_page<E: Engine + Drop>(room: &Room<E>, out: &mut Vec<u8>) -> Result<(), Stopped>
     requires { is_closed room.now.inner.now.phase ≡ true }
-    ensures { OrLacksMemory result (λ _. out.new.items ≡ out.old.items ++ page_of_room (contents (E.kind room.now.engine) room.now.inner.now)) }
+    ensures { OrLacksMemory result (λ _. out.new.items
+        ≡ out.old.items ++ page_of_room (contents_of (E.kind room.now.engine) room.now.inner.now)) }
 {
     let mut sheet = [SheetEntry {
         bidder: 0,
@@ -46,7 +47,13 @@ fn hold_by<E: Engine + Drop>(
 ) -> Result<Vec<u8>, Stopped>
     requires variant { E.kind engine ≡ sale.now.variant }
     requires limits { KeepsLimits (sale_of sale.now register.now) }
-    ensures { OrLacksMemory result (λ v. Reports (record { sale = sale_of sale.now register.now; envelopes = envelopes_in (said_in text.now) }) v.items) }
+    ensures { OrLacksMemory result
+        (λ v. Reports
+        (record {
+          sale = sale_of sale.now register.now;
+          envelopes = envelopes_in
+              (items_in text.now);
+        }) v.items) }
 {
     let mut place = RoomState::fresh();
     let mut room = Room {

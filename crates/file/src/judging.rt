@@ -1,7 +1,7 @@
 // A line judged by its place in the form.
 ghost use Rattle.std.specs.Prelude.{◌≡◌};
-ghost use Rattle.file.specs.Form.{line_must_be, line_must_say, judged};
-ghost use Rattle.file.specs.Said.{said_by, verdict_of};
+ghost use Rattle.file.specs.Form.{line_must_be, line_must_say, verdict_on};
+ghost use Rattle.file.specs.Said.{item_said, verdict_of};
 
 use crate::faults::FileFault;
 use crate::forms::{bidder_line, envelope_line, lot_line};
@@ -19,7 +19,7 @@ fn must_be<'a>(text: &[u8], next: Section, n: u32, line: &'a [u8]) -> Result<Ste
 
 // A line that must say something: what it says, or why not.
 fn must_say<'a>(said: Result<Line<'a>, FileFault>, next: Section) -> Result<Step<'a>, FileFault>
-    ensures { verdict_of result ≡ line_must_say (said_by said.entry) next }
+    ensures { verdict_of result ≡ line_must_say (item_said said.entry) next }
 {
     Ok(Step {
         said: Some(said?),
@@ -29,7 +29,7 @@ fn must_say<'a>(said: Result<Line<'a>, FileFault>, next: Section) -> Result<Step
 
 // Line n, where the form wants a line of the section.
 pub(crate) fn judge(section: Section, n: u32, line: &[u8]) -> Result<Step<'_>, FileFault>
-    ensures { verdict_of result ≡ judged section n line.now }
+    ensures { verdict_of result ≡ verdict_on section n line.now }
 {
     match section {
         Section::LotNames => must_be(b"lot,variant,terms", Section::LotValues, n, line),

@@ -32,4 +32,4 @@ pub use reading::MOST_FILE_BYTES;
 pub use reporting::{Report, report_on};
 pub use selling::{SaleError, hold_sale, report_from};
 pub use taking::gather;
-pub use theorems::{accepted_files_keep_limits, page_laws_stand};
+pub use theorems::{accepted_files_keep_limits, format_laws_stand, page_laws_stand};

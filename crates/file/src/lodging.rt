@@ -1,6 +1,6 @@
 // The envelopes of a sale file, lodged in their order.
 ghost use Rattle.std.specs.Prelude.{◌≡◌, true, [], IfOk, OnOk};
-ghost use Rattle.file.specs.Contents.{said_in, envelopes_in};
+ghost use Rattle.file.specs.Contents.{items_in, envelopes_in};
 ghost use Rattle.file.specs.Form.{is_envelope, Items, item};
 ghost use Rattle.file.specs.Hexadecimal.{written_bytes};
 ghost use Rattle.file.specs.Said.{item_of, WellFormed};
@@ -66,7 +66,7 @@ pub(crate) fn lodge_all<E: Engine + Drop>(
     room: &mut Room<E>,
     out: &mut Vec<u8>,
 ) -> Result<(), AllocError>
-    ensures { OnOk result (GoesThrough (E.kind room.old.engine) out.old.items room.old.inner.now (envelopes_in (said_in text.now)) out.new.items room.new.inner.now []
+    ensures { OnOk result (GoesThrough (E.kind room.old.engine) out.old.items room.old.inner.now (envelopes_in (items_in text.now)) out.new.items room.new.inner.now []
         × (room.new.engine ≡ room.old.engine)
         × (room.new.inner.ghost_name ≡ room.old.inner.ghost_name)) }
 {

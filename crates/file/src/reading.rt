@@ -1,8 +1,8 @@
 // Reading a sale file line by line.
 ghost use Rattle.std.specs.Prelude.{◌≡◌, ◌<◌, length};
 ghost use Rattle.std.specs.Result.{result_transpose};
-ghost use Rattle.file.specs.Contents.{said_in};
-ghost use Rattle.file.specs.Read.{left_of, left_after};
+ghost use Rattle.file.specs.Contents.{items_in};
+ghost use Rattle.file.specs.Read.{items_left, items_left_after};
 ghost use Rattle.file.specs.Stepping.{Steps, GivesNext};
 
 use crate::faults::FileFault;
@@ -19,9 +19,9 @@ const LINE_END: u8 = 10;
 
 impl<'a> Reader<'a> {
     /// A reader over the bytes of a file. One that has too many is refused at the first reading.
-    #[tactic(auto, unfolding(crate::specs::Read::left_of))]
+    #[tactic(auto, unfolding(crate::specs::Read::items_left))]
     pub fn new(text: &'a [u8]) -> Reader<'a>
-        ensures { left_of result ≡ said_in text.now }
+        ensures { items_left result ≡ items_in text.now }
     {
         if text.len() > MOST_FILE_BYTES {
             return Reader {
@@ -38,10 +38,10 @@ impl<'a> Reader<'a> {
     }
 
     // What the next line says, if anything. It is passed unless it is refused.
-    #[tactic(auto, using(crate::proofs::Cuts::items_torn, crate::proofs::Cuts::items_line), unfolding(crate::specs::Read::left_of))]
+    #[tactic(auto, using(crate::proofs::Cuts::items_torn, crate::proofs::Cuts::items_line), unfolding(crate::specs::Read::items_left))]
     fn step(&mut self) -> Result<Option<Line<'a>>, FileFault>
         requires { 0 < length self.old.rest.now }
-        ensures left { left_of self.old ≡ left_after result (left_of self.new) }
+        ensures left { items_left self.old ≡ items_left_after result (items_left self.new) }
         ensures moves { Steps result self.old self.new }
     {
         let section = self.wants?;

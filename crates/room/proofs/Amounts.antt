@@ -1,9 +1,9 @@
 -- Where two sales left equal pages, every standing amount is equal, and the other way round.
-use Rattle.std.proofs.Common.{◌≡◌, ℕ, ◌^◌, ◌<◌, Bool, true, false, cond, ◌↔◌, List, Some, None, Option, sym, ap, ◌∙◌, subst, ap₂, arith}
+use Rattle.std.proofs.Common.{◌≡◌, ℕ, ◌^◌, ◌<◌, Bool, true, false, cond, ◌↔◌, List, [], ◌++◌, Some, None, Option, sym, ap, ◌∙◌, subst, ap₂, arith}
 use Rattle.std.specs.List.{AllByRecursion}
 use Rattle.envelope.specs.Letters.{amount_offered}
 use Rattle.envelope.proofs.Laws.{amount_in_le}
-use Rattle.room.specs.Sales.{Bytes, Sale, StandingAmount, registered}
+use Rattle.room.specs.Sales.{Bytes, Sale, Lodging, StandingAmount, is_registered}
 use Rattle.room.specs.Page.{page}
 use Rattle.room.specs.declared.sheet.SheetEntry.{SheetEntry}
 use Rattle.room.proofs.Law.{Kept, amount_for, sheet_by, page_for}
@@ -28,18 +28,18 @@ pub record Lawful (s : Sale) : Type 0 where
   pub bidders : AllByRecursion (λ x. x.bidder < 2 ^ 32) s.register
   pub rising : RisesFrom 0 s.register
 
--- Where es were lodged in a sale, `kept` is kept, and p is its page.
-pub record Left (s : Sale) (es : List Bytes) (p : Bytes) : Type 0 where
+-- Where ls were lodged in a sale, `kept` is kept, and p is its page.
+pub record Left (s : Sale) (ls : List Lodging) (p : Bytes) : Type 0 where
   pub kept : Kept
   pub is : p ≡ page_for s kept
-  pub holds : Holds s es kept
+  pub holds : Holds s ls kept
 
 module _ (s : Sale) where
-  amount_known : (es : List Bytes) (b : ℕ) (o : Option Bytes) → Held s es b o → 0 < amount_for s b o → registered s.register b ≡ true
+  amount_known : (es : List Lodging) (b : ℕ) (o : Option Bytes) → Held s es b o → 0 < amount_for s b o → is_registered s.register b ≡ true
   amount_known es b None h l = absurd (omega arith)
-  amount_known es b (Some e) h l = subst (λ b. registered s.register b ≡ true) h.of h.genuine.known
+  amount_known es b (Some e) (x, h, is) l = subst (λ b. is_registered s.register b ≡ true) h.of h.genuine.known
 
-  module _ (es : List Bytes) (p : Bytes) (l : Left s es p) where
+  module _ (es : List Lodging) (p : Bytes) (l : Left s es p) where
     abbrev pub amounts : ℕ → ℕ
     amounts b = amount_for s b (l.kept b)
 
@@ -69,11 +69,11 @@ module _ (s : Sale) where
     unfolding sheet
     page_of_sheet = l.is
 
-module _ (s t : Sale) (ws : Lawful s) (wt : Lawful t) (lot : s.lot ≡ t.lot) (es fs : List Bytes) (p q : Bytes) (l : Left s es p) (m : Left t fs q) where
+module _ (s t : Sale) (ws : Lawful s) (wt : Lawful t) (lot : s.lot ≡ t.lot) (es fs : List Lodging) (p q : Bytes) (l : Left s es p) (m : Left t fs q) where
   pages_to_amounts : p ≡ q → (b : ℕ) → amounts s es p l b ≡ amounts t fs q m b
   pages_to_amounts e b =
       let same : page s.lot (sheet s es p l) ≡ page s.lot (sheet t fs q m) = sym (page_of_sheet s es p l) ∙ e ∙ page_of_sheet t fs q m ∙ ap (λ n. page n (sheet t fs q m)) (sym lot) in
-      let r = same_sheets s.lot _ _ (omega (arith, ws.lot)) (sheet_small s es p l ws) (sheet_small t fs q m wt) same in
+      let r = (same_sheets s.lot _ _ [] [] tt tt (omega (arith, ws.lot)) (sheet_small s es p l ws) (sheet_small t fs q m wt) (ap (λ z. z ++ []) same)).0 in
       sym (sheet_found s es p l ws b) ∙ ap (λ r. found r b) r ∙ sheet_found t fs q m wt b
 
   amounts_to_pages : ((b : ℕ) → amounts s es p l b ≡ amounts t fs q m b) → p ≡ q

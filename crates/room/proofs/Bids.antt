@@ -9,8 +9,8 @@ use Rattle.envelope.specs.Envelopes.{envelope_size, tag_part, right_tag, letter_
 use Rattle.envelope.specs.declared.faults.EnvelopeFault.{EnvelopeFault}
 use Rattle.envelope.specs.declared.faults.EnvelopeFault.TheVariants.{EnvelopeLength, NoteLength, AmountAboveLimit, Cipher}
 use Rattle.envelope.proofs.Laws as laws
-use Rattle.room.specs.Sales.{Bytes, Sale, Genuine, registered, key_of, tag_due, opened_letter}
-use Rattle.room.specs.Promise.{Sealed}
+use Rattle.room.specs.Sales.{Bytes, Sale, Genuine, is_registered, key_of, tag_due, opened_letter}
+use Rattle.room.specs.Sealings.{Sealed}
 use Rattle.room.proofs.Verdicts.{passes}
 
 module _ (s : Sale) (l b n : ℕ) (e : Bytes) (q : Sealed s l b n e) where
@@ -54,11 +54,11 @@ module _ (s : Sale) (l b n : ℕ) (e : Bytes) (q : Sealed s l b n e) where
   pub bid_amount : amount_offered (opened_letter s e) ≡ q.amount
   bid_amount = ap amount_offered bid_opens ∙ laws.amount_in_letter q.amount q.note affordable short
 
-  pub bid_genuine : l ≡ s.lot → 1 ≤ n → Genuine s e
+  pub bid_genuine : l ≡ s.lot → 1 ≤ n → Genuine s (record { envelope = e })
   bid_genuine its counted = record {
     long = bid_long;
     lot = bid_lot ∙ its;
-    known = ap (registered s.register) bid_bidder ∙ q.known;
+    known = ap (is_registered s.register) bid_bidder ∙ q.known;
     counted = subst (λ m. 1 ≤ m) (sym bid_sequence) counted;
     right = bid_right;
   }

@@ -8,7 +8,7 @@ use Rattle.room.proofs.Registers.{lawful_exactly}
 in_order : ChecksInOrder
 unfolding lodging_checks
 in_order = record {
-  making_looks_at_the_terms_first = λ terms register long. rw (lt-leb (length terms) 64 long) refl;
+  making_looks_at_the_terms_first = λ s long. rw (lt-leb (length s.terms) 64 long) refl;
   lodging_looks_at_the_phase_first = λ r e. refl;
   then_at_the_length = λ r e p h. rw (p, ne_eqb _ _ h) refl;
   then_at_the_lot = λ r e p l h. rw (p, eq-eqb _ _ l, ne_eqb _ _ h) refl;

@@ -6,12 +6,12 @@ use Rattle.std.proofs.ByRecursion.{All-push}
 use Rattle.std.proofs.lemmas.Bool.{le-leb, lt-leb, ltb-true, ltb-false, and_parts}
 use Rattle.std.proofs.lemmas.List.{take_more, take_at, length-map}
 use Rattle.engine.specs.declared.variants.Variant.{Variant}
-use Rattle.room.specs.Sales.{Bytes}
+use Rattle.room.specs.Sales.{Bytes, Sale}
 use Rattle.room.specs.Rising.{RiseByBidder}
-use Rattle.room.specs.Rooms.{holding_of, contents}
+use Rattle.room.specs.Rooms.{holding_of, contents_of}
 use Rattle.room.specs.Slots.{new_slot, room_of}
-use Rattle.room.specs.Opening.{written_over}
-use Rattle.room.specs.Making.{rises_from, lawful_register, nothing_held, Made}
+use Rattle.room.specs.Opening.{place_with}
+use Rattle.room.specs.Making.{rises_from, is_lawful_register, empty_holding, Made}
 use Rattle.room.specs.declared.register.RegisterEntry.{RegisterEntry}
 use Rattle.room.specs.declared.slots.Phase.TheVariants.{Open}
 use Rattle.room.specs.declared.slots.Slot.{Slot}
@@ -58,7 +58,7 @@ new_bidders : (xs : List RegisterEntry) → map (λ x. x.bidder) (map new_slot x
 new_bidders [] = refl
 new_bidders (x ∷ xs) = ap (λ bs. x.bidder ∷ bs) (new_bidders xs)
 
-pub made_rising : (register : List RegisterEntry) (before ss : List Slot) → lawful_register register ≡ true → ss ≡ written_over (map new_slot register) before → RiseByBidder (take (length register) ss)
+pub made_rising : (register : List RegisterEntry) (before ss : List Slot) → is_lawful_register register ≡ true → ss ≡ place_with (map new_slot register) before → RiseByBidder (take (length register) ss)
 made_rising register before ss lawful es =
     let some = and_parts (leb 1 (length register)) (leb (length register) 64 && rises_from 0 register) lawful in
     let up = (and_parts (leb (length register) 64) (rises_from 0 register) some.1).1 in
@@ -73,23 +73,27 @@ pub fits_more : (xs : List RegisterEntry) (i : ℕ) → i < length xs → AllByR
 fits_more xs i l a f = rw (take_more xs i nobody l) (All-push Fits (take i xs) (get_or xs i nobody) a f)
 
 -- New slots hold nothing.
-new_held : (v : Variant) (lot : ℕ) (rs : List RegisterEntry) → map (holding_of v lot) (map new_slot rs) ≡ map nothing_held rs
+new_held : (v : Variant) (lot : ℕ) (rs : List RegisterEntry) → map (holding_of v lot) (map new_slot rs) ≡ map empty_holding rs
 new_held v lot [] = refl
-new_held v lot (r ∷ rs) = ap (λ hs. nothing_held r ∷ hs) (new_held v lot rs)
+new_held v lot (r ∷ rs) = ap (λ hs. empty_holding r ∷ hs) (new_held v lot rs)
 
-pub made_granted : (lot : ℕ) (terms : Bytes) (register : List RegisterEntry) (before after : RoomState) (ts : Bytes) (ss : List Slot)
-    → length terms ≤ 64 → lawful_register register ≡ true → lot < 2 ^ 32 → AllByRecursion Fits register
-    → ts ≡ written_over terms before.terms → ss ≡ written_over (map new_slot register) before.slots → after.terms ≡ ts → after.slots ≡ ss
-    → ((v : Variant) → contents v after ≡ room_of v lot (take (length terms) ts) Open (take (length register) ss))
-    → Made lot terms register before (Ok tt) after
-made_granted lot terms register before after ts ss short lawful fits all et es pt ps is =
+pub made_granted : (s : Sale) (before after : RoomState) (ts : Bytes) (ss : List Slot)
+    → length s.terms ≤ 64 → is_lawful_register s.register ≡ true → s.lot < 2 ^ 32 → AllByRecursion Fits s.register
+    → ts ≡ place_with s.terms before.terms → ss ≡ place_with (map new_slot s.register) before.slots → after.terms ≡ ts → after.slots ≡ ss
+    → contents_of s.variant after ≡ room_of s.variant s.lot (take (length s.terms) ts) Open (take (length s.register) ss)
+    → Made s before (Ok tt) after
+made_granted sale before after ts ss short lawful fits all et es pt ps is =
+    let v = sale.variant in
+    let lot = sale.lot in
+    let terms = sale.terms in
+    let register = sale.register in
     let t : take (length terms) ts ≡ terms = ap (take (length terms)) et ∙ take_at terms (drop (length terms) before.terms) (length terms) refl in
     let n = length-map register new_slot in
     let s : take (length register) ss ≡ map new_slot register = ap (take (length register)) es ∙ take_at (map new_slot register) (drop (length (map new_slot register)) before.slots) (length register) n in
-    let h : (v : Variant) → map (holding_of v lot) (take (length register) ss) ≡ map nothing_held register = λ v. ap (map (holding_of v lot)) s ∙ new_held v lot register in
+    let h : map (holding_of v lot) (take (length register) ss) ≡ map empty_holding register = ap (map (holding_of v lot)) s ∙ new_held v lot register in
     record {
       answers = rw (le-leb (length terms) 64 short, lawful);
-      leaves = λ v. is v ∙ ap₂ (λ t hs. record { variant = v; lot = lot; terms = t; phase = Open; holdings = hs }) t (h v);
+      leaves = is ∙ ap₂ (λ t hs. record { variant = v; lot = lot; terms = t; phase = Open; holdings = hs }) t h;
       place = (pt ∙ et, ps ∙ es);
       lot_fits = fits;
       bidders_fit = all;

@@ -13,7 +13,7 @@ use Rattle.envelope.specs.declared.reading.SealedBid.{SealedBid}
 use Rattle.envelope.proofs.Laws.{head_back}
 use Rattle.envelope.proofs.ReadingLaws.{bid_in}
 use Rattle.room.specs.Sales.{Bytes}
-use Rattle.room.specs.Rooms.{filled}
+use Rattle.room.specs.Rooms.{filled_slot}
 use Rattle.room.specs.Calls.{head_checks, tag_checks}
 use Rattle.room.specs.Reading.{bid_checks, filled_by}
 use Rattle.room.specs.declared.faults.RoomFault.{RoomFault}
@@ -32,7 +32,7 @@ none_read v lot e o h none = go (eqb (length e) (envelope_size v)) refl (ap seal
 
 -- The bid that was read, in the envelope that it was read of.
 module _ (e : Bytes) (b : BidParts) (is : b ≡ bid_of e) where
-  pub filled_by_bid : (x : Slot) → filled_by b x ≡ filled x b.head.sequence e
+  pub filled_by_bid : (x : Slot) → filled_by b x ≡ filled_slot x b.head.sequence e
   filled_by_bid x = ap (λ z. filled_by (record { head = b.head; letter = z.letter; tag = z.tag }) x) is
 
   right : (v : Variant) (key terms : Bytes) → 12 ≤ length e → AllBelowBase 256 e

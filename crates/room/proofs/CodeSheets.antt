@@ -15,13 +15,14 @@ use Rattle.envelope.proofs.Laws.{amount_in_le}
 use Rattle.list.specs.Order.{by_key}
 use Rattle.list.specs.Insertion.{answer_of, places_after}
 use Rattle.list.proofs.Laws.{last_not_refused, last_placed, before_by_key}
+use Rattle.room.specs.Limits.{most_bidders, most_page_bytes}
 use Rattle.room.specs.Sales.{Bytes}
-use Rattle.room.specs.Page.{line, page}
+use Rattle.room.specs.Page.{row_of, rows, line, page}
 use Rattle.room.specs.Rising.{RiseByBidder}
 use Rattle.room.specs.Rooms.{Holding, Contents, envelope_in, holding_of}
 use Rattle.room.proofs.CodeSlots.{no_slot}
-use Rattle.room.specs.Calls.{amount_held, amount_of_holding, listed}
-use Rattle.room.specs.Opening.{written_over}
+use Rattle.room.specs.Calls.{amount_held, amount_of_holding, sheet_entries}
+use Rattle.room.specs.Opening.{place_with}
 use Rattle.room.specs.Slots.{room_of, sheet_in}
 use Rattle.room.specs.declared.sheet.SheetEntry.{SheetEntry}
 use Rattle.room.specs.declared.slots.Phase.TheVariants.{Closed}
@@ -29,12 +30,12 @@ use Rattle.room.specs.declared.slots.Slot.{Slot}
 use Rattle.room.proofs.CodePages.{length_line, page_length}
 
 -- A sheet, one slot more.
-listed_append : (r : Contents) (hs ks : List Holding) → listed r (hs ++ ks) ≡ listed r hs ++ listed r ks
-listed_append r [] ks = refl
-listed_append r (h ∷ hs) ks = go (ltb 0 (amount_of_holding r h)) (listed_append r hs ks)
+sheet_entries-append : (r : Contents) (hs ks : List Holding) → sheet_entries r (hs ++ ks) ≡ sheet_entries r hs ++ sheet_entries r ks
+sheet_entries-append r [] ks = refl
+sheet_entries-append r (h ∷ hs) ks = go (ltb 0 (amount_of_holding r h)) (sheet_entries-append r hs ks)
   where
-    go : (t : Bool) → listed r (hs ++ ks) ≡ listed r hs ++ listed r ks
-        → cond t (record { bidder = h.bidder; amount = amount_of_holding r h } ∷ listed r (hs ++ ks)) (listed r (hs ++ ks)) ≡ cond t (record { bidder = h.bidder; amount = amount_of_holding r h } ∷ listed r hs) (listed r hs) ++ listed r ks
+    go : (t : Bool) → sheet_entries r (hs ++ ks) ≡ sheet_entries r hs ++ sheet_entries r ks
+        → cond t (record { bidder = h.bidder; amount = amount_of_holding r h } ∷ sheet_entries r (hs ++ ks)) (sheet_entries r (hs ++ ks)) ≡ cond t (record { bidder = h.bidder; amount = amount_of_holding r h } ∷ sheet_entries r hs) (sheet_entries r hs) ++ sheet_entries r ks
     go true ih = ap (λ zs. record { bidder = h.bidder; amount = amount_of_holding r h } ∷ zs) ih
     go false ih = ih
 
@@ -44,8 +45,8 @@ module _ (v : Variant) (lot : ℕ) (terms : Bytes) where
 
   sheet_split : (xs : List Slot) (i : ℕ) → i < length xs → sheet_in v lot terms (take (i + 1) xs) ≡ sheet_in v lot terms (take i xs) ++ sheet_in v lot terms (get_or xs i no_slot ∷ [])
   sheet_split xs i l =
-      ap (listed (room_of v lot terms Closed [])) (map_more (holding_of v lot) xs i no_slot l)
-      ∙ listed_append (room_of v lot terms Closed []) (map (holding_of v lot) (take i xs)) (holding_of v lot (get_or xs i no_slot) ∷ [])
+      ap (sheet_entries (room_of v lot terms Closed [])) (map_more (holding_of v lot) xs i no_slot l)
+      ∙ sheet_entries-append (room_of v lot terms Closed []) (map (holding_of v lot) (take i xs)) (holding_of v lot (get_or xs i no_slot) ∷ [])
 
   pub sheet_more : (xs : List Slot) (i n : ℕ) → i < length xs → n ≡ offered (get_or xs i no_slot) → 0 < n
       → sheet_in v lot terms (take (i + 1) xs) ≡ sheet_in v lot terms (take i xs) ++ (record { bidder = (get_or xs i no_slot).bidder; amount = n } ∷ [])
@@ -68,7 +69,7 @@ module _ (v : Variant) (lot : ℕ) (terms : Bytes) where
       go false h = omega arith
 
 -- What is taken of a place that was written over.
-pub over_taken : {X : Type 0} (s old new : List X) (n : ℕ) → n ≡ length s → new ≡ written_over s old → take n new ≡ s
+pub over_taken : {X : Type 0} (s old new : List X) (n : ℕ) → n ≡ length s → new ≡ place_with s old → take n new ≡ s
 over_taken s old new n en e = ap₂ take en e ∙ take_at s (drop (length s) old) (length s) refl
 
 -- Among slots that rise, those in front of a slot have lower bidders.
@@ -94,14 +95,14 @@ below_on_sheet v lot terms b (x ∷ xs) h = go (ltb 0 (offered v lot terms x)) (
     go false s = s
 
 pub comes_last : (v : Variant) (lot : ℕ) (terms : Bytes) (xs : List Slot) (i n b : ℕ) (sheet old : List SheetEntry) → RiseByBidder xs → i < length xs → b ≡ (get_or xs i no_slot).bidder
-    → n ≡ length (sheet_in v lot terms (take i xs)) → sheet ≡ written_over (sheet_in v lot terms (take i xs)) old → All (λ x. x.bidder < b) (take n sheet)
+    → n ≡ length (sheet_in v lot terms (take i xs)) → sheet ≡ place_with (sheet_in v lot terms (take i xs)) old → All (λ x. x.bidder < b) (take n sheet)
 comes_last v lot terms xs i n b sheet old up l eb en es =
     let s = sheet_in v lot terms (take i xs) in
     let below = below_on_sheet v lot terms (get_or xs i no_slot).bidder (take i xs) (front_below xs i up l) in
     let P : List SheetEntry → Type 0 = λ zs. All (λ x. x.bidder < b) zs in
     subst P (sym (over_taken s old sheet n en es)) (λ k d w. let m = All-get_or (λ x. x.bidder < (get_or xs i no_slot).bidder) s k d w below in omega arith)
 
-pub over_push : {X : Type 0} (s old : List X) (n : ℕ) (y : X) → n ≡ length s → n < length old → set (written_over s old) n y ≡ written_over (s ++ (y ∷ [])) old
+pub over_push : {X : Type 0} (s old : List X) (n : ℕ) (y : X) → n ≡ length s → n < length old → set (place_with s old) n y ≡ place_with (s ++ (y ∷ [])) old
 over_push s old n y e h =
     ap (λ z. set (s ++ z) n y) (drop_more old (length s) y (omega arith))
     ∙ set_at s (get_or old (length s) y) (drop (length s + 1) old) y n (sym e)
@@ -110,25 +111,25 @@ over_push s old n y e h =
 
 -- The step of going through the slots.
 pub sheet_step : (v : Variant) (lot : ℕ) (terms : Bytes) (xs : List Slot) (i n b m : ℕ) (sheet old : List SheetEntry) → i < length xs → b ≡ (get_or xs i no_slot).bidder → m ≡ offered v lot terms (get_or xs i no_slot)
-    → n ≡ length (sheet_in v lot terms (take i xs)) → sheet ≡ written_over (sheet_in v lot terms (take i xs)) old → n < length old → n ≤ i
+    → n ≡ length (sheet_in v lot terms (take i xs)) → sheet ≡ place_with (sheet_in v lot terms (take i xs)) old → n < length old → n ≤ i
     → (cond (ltb 0 m) (n + 1) n ≡ length (sheet_in v lot terms (take (i + 1) xs)))
-    × (cond (ltb 0 m) (set sheet n (record { bidder = b; amount = m })) sheet ≡ written_over (sheet_in v lot terms (take (i + 1) xs)) old)
+    × (cond (ltb 0 m) (set sheet n (record { bidder = b; amount = m })) sheet ≡ place_with (sheet_in v lot terms (take (i + 1) xs)) old)
     × (cond (ltb 0 m) (n + 1) n ≤ i + 1)
 sheet_step v lot terms xs i n b m sheet old l eb em en es h le = go (ltb 0 m) refl
   where
     go : (t : Bool) → ltb 0 m ≡ t
         → (cond t (n + 1) n ≡ length (sheet_in v lot terms (take (i + 1) xs)))
-        × (cond t (set sheet n (record { bidder = b; amount = m })) sheet ≡ written_over (sheet_in v lot terms (take (i + 1) xs)) old)
+        × (cond t (set sheet n (record { bidder = b; amount = m })) sheet ≡ place_with (sheet_in v lot terms (take (i + 1) xs)) old)
         × (cond t (n + 1) n ≤ i + 1)
     go true e =
         let x : SheetEntry = record { bidder = b; amount = m } in
         let q : sheet_in v lot terms (take (i + 1) xs) ≡ sheet_in v lot terms (take i xs) ++ (x ∷ []) =
         sheet_more v lot terms xs i m l em (ltb-true 0 m e) ∙ ap (λ c. sheet_in v lot terms (take i xs) ++ (record { bidder = c; amount = m } ∷ [])) (sym eb) in
         let k : length (sheet_in v lot terms (take (i + 1) xs)) ≡ length (sheet_in v lot terms (take i xs)) + 1 = ap length q ∙ length-append (sheet_in v lot terms (take i xs)) (x ∷ []) in
-        (omega arith, ap (λ z. set z n x) es ∙ over_push (sheet_in v lot terms (take i xs)) old n x en h ∙ ap (λ z. written_over z old) (sym q), omega arith)
+        (omega arith, ap (λ z. set z n x) es ∙ over_push (sheet_in v lot terms (take i xs)) old n x en h ∙ ap (λ z. place_with z old) (sym q), omega arith)
     go false e =
         let q = sheet_same v lot terms xs i m l em (ltb-false 0 m e) in
-        (en ∙ ap length (sym q), es ∙ ap (λ z. written_over z old) (sym q), omega arith)
+        (en ∙ ap length (sym q), es ∙ ap (λ z. place_with z old) (sym q), omega arith)
 
 -- How long a page can be.
 abbrev pub Small : SheetEntry → Type 0
@@ -156,23 +157,23 @@ small_sheet v lot terms (x ∷ xs) h = go (ltb 0 (offered v lot terms x)) (small
     go true s = ((h.0, amount_le v x.key terms (envelope_in v lot x)), s)
     go false s = s
 
-line_le : (lot : ℕ) (x : SheetEntry) → lot < 2 ^ 32 → Small x → length (line lot x) ≤ 35
+line_le : (lot : ℕ) (x : SheetEntry) → lot < 2 ^ 32 → Small x → length (line (row_of lot x)) ≤ 35
 line_le lot x h s =
     let a = length-decimal-le 10 lot (omega arith) (omega arith) (omega arith) in
     let b = length-decimal-le 10 x.bidder (omega arith) (omega (arith, s.0)) (omega (arith, s.0)) in
     let c = length-decimal-le 12 x.amount (omega arith) (omega (arith, s.1)) (omega (arith, s.1)) in
-    let e = length_line lot x in
+    let e = length_line (row_of lot x) in
     omega arith
 
-lines_le : (lot : ℕ) (xs : List SheetEntry) → lot < 2 ^ 32 → AllByRecursion Small xs → length (flat_map (line lot) xs) ≤ 35 * length xs
+lines_le : (lot : ℕ) (xs : List SheetEntry) → lot < 2 ^ 32 → AllByRecursion Small xs → length (flat_map line (rows lot xs)) ≤ 35 * length xs
 lines_le lot [] h s = omega arith
 lines_le lot (x ∷ xs) h s =
     let a = line_le lot x h s.0 in
     let b = lines_le lot xs h s.1 in
-    let c = length-append (line lot x) (flat_map (line lot) xs) in
+    let c = length-append (line (row_of lot x)) (flat_map line (rows lot xs)) in
     omega arith
 
-pub page_fits : (v : Variant) (lot : ℕ) (terms : Bytes) (xs : List Slot) → lot < 2 ^ 32 → length xs ≤ 64 → AllByRecursion Fits xs → length (page lot (sheet_in v lot terms xs)) ≤ 2258
+pub page_fits : (v : Variant) (lot : ℕ) (terms : Bytes) (xs : List Slot) → lot < 2 ^ 32 → length xs ≤ most_bidders → AllByRecursion Fits xs → length (page lot (sheet_in v lot terms xs)) ≤ most_page_bytes
 page_fits v lot terms xs h few all =
     let a = lines_le lot (sheet_in v lot terms xs) h (small_sheet v lot terms xs all) in
     let b = sheet_le v lot terms xs in

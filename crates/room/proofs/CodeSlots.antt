@@ -9,11 +9,11 @@ use Rattle.cipher.specs.Mode.{tag_size}
 use Rattle.envelope.specs.Heads.{head, lot_of, bidder_of, sequence_of}
 use Rattle.envelope.specs.Envelopes.{envelope_size, sealed_part, tag_part}
 use Rattle.envelope.proofs.HeadLaws.{sequence_back}
-use Rattle.room.specs.Sales.{Bytes, registered, key_of}
+use Rattle.room.specs.Sales.{Bytes, is_registered, key_of}
 use Rattle.envelope.specs.Parts.{BidParts}
 use Rattle.room.specs.Reading.{filled_by}
 use Rattle.room.specs.Rising.{RiseByBidder}
-use Rattle.room.specs.Rooms.{entry_of, kept_for, sequence_in, accepted, filled, filled_in, envelope_in, holding_of}
+use Rattle.room.specs.Rooms.{entry_of, kept_for, sequence_in, holdings_with, filled_slot, slots_with, envelope_in, holding_of}
 use Rattle.room.specs.Slots.{new_slot, HasNone}
 use Rattle.room.specs.declared.register.RegisterEntry.{RegisterEntry}
 use Rattle.room.specs.declared.slots.Slot.{Slot}
@@ -42,7 +42,7 @@ abbrev pub HasHead : Bytes → Type 0
 HasHead e = head (lot_of e) (bidder_of e) (sequence_of e) ≡ take 12 e
 
 pub kept_is : (v : Variant) (lot : ℕ) (x : Slot) (e : Bytes) → length e ≡ envelope_size v → HasHead e → lot_of e ≡ lot → x.bidder ≡ bidder_of e → 0 < sequence_of e
-    → holding_of v lot (filled x (sequence_of e) e) ≡ record { bidder = x.bidder; key = x.key; envelope = Some e }
+    → holding_of v lot (filled_slot x (sequence_of e) e) ≡ record { bidder = x.bidder; key = x.key; envelope = Some e }
 kept_is v lot x e long its_head its its_bidder some =
     let n : (sequence_of e ≡ 0 → ⊥) = λ z. omega arith in
     let t : length (tag_part e) ≡ tag_size v = length-drop 76 e ∙ omega arith in
@@ -53,20 +53,20 @@ kept_is v lot x e long its_head its its_bidder some =
 
 module _ (v : Variant) (lot : ℕ) (d : Slot) where
   -- Where no slot is the bidder's, it is not registered.
-  pub none_known : (xs : List Slot) (b : ℕ) → HasNone xs b → registered (map entry_of (map (holding_of v lot) xs)) b ≡ false
+  pub none_known : (xs : List Slot) (b : ℕ) → HasNone xs b → is_registered (map entry_of (map (holding_of v lot) xs)) b ≡ false
   none_known [] b h = refl
   none_known (x ∷ xs) b h = rw (ne_eqb x.bidder b (h 0 x (omega arith))) (none_known xs b (λ k d l. h (suc k) d (omega arith)))
 
   -- At the first slot of a bidder.
   pub placed : (xs : List Slot) (i b : ℕ) → i < length xs → (get_or xs i d).bidder ≡ b → ((k : ℕ) → k < i → (get_or xs k d).bidder ≡ b → ⊥)
-      → (registered (map entry_of (map (holding_of v lot) xs)) b ≡ true) × (key_of (map entry_of (map (holding_of v lot) xs)) b ≡ (get_or xs i d).key) × (kept_for (map (holding_of v lot) xs) b ≡ envelope_in v lot (get_or xs i d))
+      → (is_registered (map entry_of (map (holding_of v lot) xs)) b ≡ true) × (key_of (map entry_of (map (holding_of v lot) xs)) b ≡ (get_or xs i d).key) × (kept_for (map (holding_of v lot) xs) b ≡ envelope_in v lot (get_or xs i d))
   placed [] i b l h none = absurd (omega arith)
   placed (x ∷ xs) zero b l h none = rw (eq-eqb _ _ h) (refl, refl, refl)
   placed (x ∷ xs) (suc i) b l h none = rw (ne_eqb _ _ (none 0 (omega arith))) (placed xs i b (omega arith) h (λ k m. none (suc k) (omega arith)))
 
   pub put_at : (e : Bytes) (xs : List Slot) (i : ℕ) (y : Slot) → i < length xs → (get_or xs i d).bidder ≡ bidder_of e → ((k : ℕ) → k < i → (get_or xs k d).bidder ≡ bidder_of e → ⊥)
       → holding_of v lot y ≡ record { bidder = (get_or xs i d).bidder; key = (get_or xs i d).key; envelope = Some e }
-      → map (holding_of v lot) (set xs i y) ≡ accepted e (map (holding_of v lot) xs)
+      → map (holding_of v lot) (set xs i y) ≡ holdings_with e (map (holding_of v lot) xs)
   put_at e [] i y l h none f = absurd (omega arith)
   put_at e (x ∷ xs) zero y l h none f = rw (eq-eqb _ _ h) (ap (λ z. z ∷ map (holding_of v lot) xs) f)
   put_at e (x ∷ xs) (suc i) y l h none f =
@@ -74,7 +74,7 @@ module _ (v : Variant) (lot : ℕ) (d : Slot) where
 
 -- Filling the first slot of the envelope's bidder.
 pub filled_at : (e : Bytes) (d : Slot) (xs : List Slot) (i : ℕ) → i < length xs → (get_or xs i d).bidder ≡ bidder_of e → ((k : ℕ) → k < i → (get_or xs k d).bidder ≡ bidder_of e → ⊥)
-    → set xs i (filled (get_or xs i d) (sequence_of e) e) ≡ filled_in e xs
+    → set xs i (filled_slot (get_or xs i d) (sequence_of e) e) ≡ slots_with e xs
 filled_at e d [] i l h none = absurd (omega arith)
 filled_at e d (x ∷ xs) zero l h none = rw (eq-eqb _ _ h) refl
 filled_at e d (x ∷ xs) (suc i) l h none =

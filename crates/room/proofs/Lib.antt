@@ -1,28 +1,32 @@
-pub mod CodePages
-pub mod CodeChecks
-pub mod CodeSlots
-pub mod CodeReading
-pub mod CodeLodging
-pub mod CodeMaking
-pub mod CodeTags
-pub mod CodeOffers
-pub mod CodeSheets
-pub mod Law
-pub mod Verdicts
-pub mod Holding
-pub mod Order
-pub mod Bids
-pub mod Secret
-pub mod Pages
-pub mod Chains
-pub mod Amounts
-pub mod Histories
-pub mod Registers
-pub mod ClosedRooms
-pub mod SealedBids
-pub mod Standings
-pub mod RoomsWith
-pub mod Occurring
-pub mod Whole
-pub mod Lot17
-pub mod CallLaws
+mod CodePages
+mod CodeChecks
+mod CodeSlots
+mod CodeReading
+mod CodeLodging
+mod CodeMaking
+mod CodeTags
+mod CodeOffers
+mod CodeSheets
+mod Law
+mod Verdicts
+mod Holding
+mod Order
+mod Bids
+mod Secret
+mod Pages
+mod Chains
+mod Amounts
+mod Histories
+mod Registers
+mod ClosedRooms
+mod SealedBids
+mod Standings
+mod RoomsWith
+mod Occurring
+mod Whole
+mod Lot17
+mod CallLaws
+pub mod AnswerLaws
+pub mod RegisterLaws
+pub mod HistoryLaws
+pub mod PageLaws

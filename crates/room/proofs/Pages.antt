@@ -1,14 +1,15 @@
 -- Equal pages have equal sheets, and equal amounts give equal sheets.
-use Rattle.std.proofs.Common.{◌≡◌, ℕ, suc, ◌+◌, ◌^◌, ◌<◌, ◌≤◌, Bool, true, false, cond, eqb, ltb, leb, ◌⊎◌, List, [], ◌∷◌, ◌++◌, length, decimal, sym, refl, ap, ◌∙◌, subst, ap₂, inl, inr, ⊎_elim, append_assoc, arith, length-append}
+use Rattle.std.proofs.Common.{◌≡◌, ℕ, suc, ◌+◌, ◌^◌, ◌<◌, ◌≤◌, Bool, true, false, cond, eqb, ltb, leb, ◌⊎◌, List, [], ◌∷◌, ◌++◌, decimal, sym, refl, ap, ◌∙◌, subst, ap₂, inl, inr, ⊎_elim, append_assoc, arith}
 use Rattle.std.specs.List.{flat_map, AllByRecursion}
 use Rattle.std.proofs.lemmas.List.{append_cancel_left}
 use Rattle.std.proofs.ByRecursion.{All-push}
 use Rattle.std.proofs.lemmas.Fmt.{decimal_by_steps, decimal_injective}
 use Rattle.std.proofs.lemmas.Bool.{ltb-true, ltb-false, eqb-true, eqb-false, eq-eqb, ne_eqb, leb-true, and_parts, cases_order, cases_eq, cases_lt, both_ways}
-use Rattle.room.specs.Sales.{Bytes, registered}
-use Rattle.room.specs.Page.{names, line, page}
+use Rattle.room.specs.Sales.{Bytes, is_registered}
+use Rattle.room.specs.Page.{names, row_of, rows, line, page}
 use Rattle.room.specs.Making.{rises_from}
 use Rattle.room.specs.declared.register.RegisterEntry.{RegisterEntry}
+use Rattle.room.specs.declared.printing.Row.{Row}
 use Rattle.room.specs.declared.sheet.SheetEntry.{SheetEntry}
 use Rattle.room.proofs.Law.{sheet_by}
 
@@ -31,33 +32,81 @@ same_decimals x m n r q low a b h =
     let i = same_fields x (decimal m) (decimal n) r q (digits_high m a) (digits_high n b) low h in
     (decimal_injective m n a b i.0, i.1)
 
+-- Numbers of a sheet entry, and of a row_of, have 64 bits.
 abbrev pub Written : SheetEntry → Type 0
 Written r = (r.bidder < 2 ^ 64) × (r.amount < 2 ^ 64)
 
-same_line : (lot : ℕ) (a b : SheetEntry) (r q : Bytes) → lot < 2 ^ 64 → Written a → Written b → line lot a ++ r ≡ line lot b ++ q → (a ≡ b) × (r ≡ q)
+abbrev WrittenRow : Row → Type 0
+WrittenRow r = (r.lot < 2 ^ 64) × (r.bidder < 2 ^ 64) × (r.amount < 2 ^ 64)
+
+same_line : (a b : Row) (r q : Bytes) → WrittenRow a → WrittenRow b → line a ++ r ≡ line b ++ q → (a ≡ b) × (r ≡ q)
 unfolding line
-same_line lot a b r q small wa wb h =
+same_line a b r q wa wb h =
     let e = simp append_assoc at h in
-    let i = same_decimals 44 lot lot _ _ (omega arith) small small e in
-    let j = same_decimals 44 a.bidder b.bidder _ _ (omega arith) wa.0 wb.0 i.1 in
-    let k = same_decimals 10 a.amount b.amount r q (omega arith) wa.1 wb.1 j.1 in
-    (λ i. record { bidder = j.0 i; amount = k.0 i }, k.1)
+    let i = same_decimals 44 a.lot b.lot _ _ (omega arith) wa.0 wb.0 e in
+    let j = same_decimals 44 a.bidder b.bidder _ _ (omega arith) wa.1 wb.1 i.1 in
+    let k = same_decimals 10 a.amount b.amount r q (omega arith) wa.2 wb.2 j.1 in
+    (λ t. record { lot = i.0 t; bidder = j.0 t; amount = k.0 t }, k.1)
 
-line_some : (lot : ℕ) (a : SheetEntry) (r : Bytes) → 0 < length (line lot a ++ r)
+-- What may follow the lines: nothing, or bytes that begin with no digit.
+abbrev pub EndsLines : Bytes → Type 0
+EndsLines [] = Unit {0}
+EndsLines (x ∷ xs) = x < 48
+
+abbrev BeginsHigh : Bytes → Type 0
+BeginsHigh [] = ⊥
+BeginsHigh (d ∷ ds) = 48 ≤ d
+
+begins_still : (ds : Bytes) (d : ℕ) → BeginsHigh ds → BeginsHigh (ds ++ d ∷ [])
+begins_still [] d h = absurd h
+begins_still (e ∷ ds) d h = h
+
+digit_first : (n : ℕ) → n < 2 ^ 64 → BeginsHigh (decimal n)
+digit_first = decimal_by_steps (λ n ds. BeginsHigh ds) (λ n l. omega arith) (λ n ds l a. begins_still ds _ a)
+
+-- So it is no line.
+no_digits : (ds z r : Bytes) → BeginsHigh ds → EndsLines r → r ≡ ds ++ z → ⊥
+no_digits [] z r h e q = h
+no_digits (d ∷ ds) z [] h e q = let w : ◌≡◌ {A = ℕ} 0 1 = cc in omega arith
+no_digits (d ∷ ds) z (x ∷ r) h e q = let w : x ≡ d = cc in omega arith
+
+no_line : (y : Row) (z r : Bytes) → WrittenRow y → EndsLines r → r ≡ line y ++ z → ⊥
 unfolding line
-line_some lot a r = simp length-append (omega arith)
+no_line y z r w e q = no_digits (decimal y.lot) _ r (digit_first y.lot w.0) e (q ∙ append_assoc (decimal y.lot) _ z)
 
-same_lines : (lot : ℕ) (xs ys : List SheetEntry) → lot < 2 ^ 64 → AllByRecursion Written xs → AllByRecursion Written ys → flat_map (line lot) xs ≡ flat_map (line lot) ys → xs ≡ ys
-same_lines lot [] [] small a b h = refl
-same_lines lot [] (y ∷ ys) small a b h = absurd (omega (arith, line_some lot y (flat_map (line lot) ys), ap length h))
-same_lines lot (x ∷ xs) [] small a b h = absurd (omega (arith, line_some lot x (flat_map (line lot) xs), ap length h))
-same_lines lot (x ∷ xs) (y ∷ ys) small a b h =
-    let i = same_line lot x y _ _ small a.0 b.0 h in
-    ap₂ ◌∷◌ i.0 (same_lines lot xs ys small a.1 b.1 i.1)
+same_lines : (xs ys : List Row) (r q : Bytes) → EndsLines r → EndsLines q → AllByRecursion WrittenRow xs → AllByRecursion WrittenRow ys
+    → flat_map line xs ++ r ≡ flat_map line ys ++ q → (xs ≡ ys) × (r ≡ q)
+same_lines [] [] r q er eq a b h = (refl, h)
+same_lines [] (y ∷ ys) r q er eq a b h = absurd (no_line y _ r b.0 er (h ∙ append_assoc (line y) (flat_map line ys) q))
+same_lines (x ∷ xs) [] r q er eq a b h = absurd (no_line x _ q a.0 eq (sym h ∙ append_assoc (line x) (flat_map line xs) r))
+same_lines (x ∷ xs) (y ∷ ys) r q er eq a b h =
+    let i = same_line x y _ _ a.0 b.0 (sym (append_assoc (line x) (flat_map line xs) r) ∙ h ∙ append_assoc (line y) (flat_map line ys) q) in
+    let j = same_lines xs ys r q er eq a.1 b.1 i.1 in
+    (ap₂ ◌∷◌ i.0 j.0, j.1)
 
-pub same_sheets : (lot : ℕ) (xs ys : List SheetEntry) → lot < 2 ^ 64 → AllByRecursion Written xs → AllByRecursion Written ys → page lot xs ≡ page lot ys → xs ≡ ys
+-- The rows of a sheet tell its entries.
+same_entries : (lot : ℕ) (xs ys : List SheetEntry) → rows lot xs ≡ rows lot ys → xs ≡ ys
+same_entries lot [] [] h = refl
+same_entries lot [] (y ∷ ys) h = absurd (let w : ◌≡◌ {A = ℕ} 0 1 = cc in omega arith)
+same_entries lot (x ∷ xs) [] h = absurd (let w : ◌≡◌ {A = ℕ} 0 1 = cc in omega arith)
+same_entries lot (x ∷ xs) (y ∷ ys) h =
+    let e : row_of lot x ≡ row_of lot y = cc in
+    let t : rows lot xs ≡ rows lot ys = cc in
+    ap₂ ◌∷◌ (λ i. record { bidder = (e i).bidder; amount = (e i).amount }) (same_entries lot xs ys t)
+
+written_rows : (lot : ℕ) (xs : List SheetEntry) → lot < 2 ^ 64 → AllByRecursion Written xs → AllByRecursion WrittenRow (rows lot xs)
+written_rows lot [] l h = tt
+written_rows lot (x ∷ xs) l h = ((l, h.0.0, h.0.1), written_rows lot xs l h.1)
+
+-- Pages of one lot, with something behind them that is no line.
+pub same_sheets : (lot : ℕ) (xs ys : List SheetEntry) (r q : Bytes) → EndsLines r → EndsLines q → lot < 2 ^ 64 → AllByRecursion Written xs → AllByRecursion Written ys
+    → page lot xs ++ r ≡ page lot ys ++ q → (xs ≡ ys) × (r ≡ q)
 unfolding page
-same_sheets lot xs ys small a b h = same_lines lot xs ys small a b (append_cancel_left names _ _ h)
+same_sheets lot xs ys r q er eq small a b h =
+    let behind : flat_map line (rows lot xs) ++ r ≡ flat_map line (rows lot ys) ++ q =
+    append_cancel_left names _ _ (sym (append_assoc names (flat_map line (rows lot xs)) r) ∙ h ∙ append_assoc names (flat_map line (rows lot ys)) q) in
+    let i = same_lines (rows lot xs) (rows lot ys) r q er eq (written_rows lot xs small a) (written_rows lot ys small b) behind in
+    (same_entries lot xs ys i.0, i.1)
 
 -- The amount that a sheet has for a bidder.
 abbrev pub found : List SheetEntry → ℕ → ℕ
@@ -130,11 +179,11 @@ module _ (f : ℕ → ℕ) where
       go false r = r
 
   -- The sheet has each registered bidder's amount.
-  pub sheet_finds : (m b : ℕ) (xs : List RegisterEntry) → RisesFrom m xs → (0 < f b → registered xs b ≡ true) → found (sheet_by f xs) b ≡ f b
+  pub sheet_finds : (m b : ℕ) (xs : List RegisterEntry) → RisesFrom m xs → (0 < f b → is_registered xs b ≡ true) → found (sheet_by f xs) b ≡ f b
   sheet_finds m b [] h known = ⊎_elim (λ l. absurd (both_ways false refl (known l))) (λ l. omega arith) (cases_lt 0 (f b))
   sheet_finds m b (x ∷ xs) h known = go (ltb 0 (f x.bidder)) refl (eqb x.bidder b) refl known (sheet_finds (suc x.bidder) b xs h.1)
     where
-      go : (t : Bool) → ltb 0 (f x.bidder) ≡ t → (u : Bool) → eqb x.bidder b ≡ u → (0 < f b → cond u true (registered xs b) ≡ true) → ((0 < f b → registered xs b ≡ true) → found (sheet_by f xs) b ≡ f b) → found (cond t (record { bidder = x.bidder; amount = f x.bidder } ∷ sheet_by f xs) (sheet_by f xs)) b ≡ f b
+      go : (t : Bool) → ltb 0 (f x.bidder) ≡ t → (u : Bool) → eqb x.bidder b ≡ u → (0 < f b → cond u true (is_registered xs b) ≡ true) → ((0 < f b → is_registered xs b ≡ true) → found (sheet_by f xs) b ≡ f b) → found (cond t (record { bidder = x.bidder; amount = f x.bidder } ∷ sheet_by f xs) (sheet_by f xs)) b ≡ f b
       go true e true same k ih = found_here _ (sheet_by f xs) b (eqb-true _ _ same) ∙ ap f (eqb-true _ _ same)
       go true e false other k ih = found_later _ (sheet_by f xs) b (eqb-false _ _ other) ∙ ih k
       go false e true same k ih =

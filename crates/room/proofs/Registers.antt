@@ -3,7 +3,7 @@ use Rattle.std.proofs.Common.{◌≡◌, ◌↔◌, ◌&&◌, ℕ, zero, suc, �
 use Rattle.std.proofs.lemmas.Bool.{and_from, and_parts, le-leb, leb-true}
 use Rattle.list.specs.Order.{Rising, by_key}
 use Rattle.list.proofs.Laws.{key_below, before_by_key}
-use Rattle.room.specs.Making.{rises_from, lawful_register}
+use Rattle.room.specs.Making.{rises_from, is_lawful_register}
 use Rattle.room.specs.declared.register.RegisterEntry.{RegisterEntry}
 use Rattle.room.proofs.CodeMaking.{nobody}
 use Rattle.room.proofs.Pages.{RisesFrom, rises}
@@ -38,7 +38,7 @@ by_bidder (x ∷ xs) m r zero (suc j) d a b =
     before_by_key (λ y. y.bidder) x (get_or xs j d) (let u = at_least xs (suc x.bidder) j d r.1 (omega arith) in omega arith)
 by_bidder (x ∷ xs) m r (suc i) (suc j) d a b = by_bidder xs (suc x.bidder) r.1 i j d (omega arith) (omega arith)
 
-pub lawful_exactly : (xs : List RegisterEntry) → (lawful_register xs ≡ true) ↔ ((1 ≤ length xs) × (length xs ≤ 64) × ByBidder xs)
+pub lawful_exactly : (xs : List RegisterEntry) → (is_lawful_register xs ≡ true) ↔ ((1 ≤ length xs) × (length xs ≤ 64) × ByBidder xs)
 lawful_exactly xs = (
   λ h.
       let p = and_parts (leb 1 (length xs)) (leb (length xs) 64 && rises_from 0 xs) h in

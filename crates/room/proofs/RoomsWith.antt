@@ -8,11 +8,11 @@ use Rattle.std.proofs.lemmas.List.{length-map}
 use Rattle.engine.specs.declared.variants.Variant.{Variant}
 use Rattle.envelope.specs.Letters.{most_cents}
 use Rattle.envelope.specs.Heads.{bidder_of, sequence_of}
-use Rattle.room.specs.Sales.{Bytes, Sale, Genuine, Among, Standing, StandingAmount, registered}
+use Rattle.room.specs.Sales.{Bytes, Sale, Lodging, Genuine, Among, Standing, StandingAmount, is_registered}
 use Rattle.room.specs.Page.{page}
 use Rattle.room.specs.Making.{rises_from}
-use Rattle.room.specs.Runs.{History, sale, IsClosed, Stands, Prints}
-use Rattle.room.specs.Promise.{Sealed}
+use Rattle.room.specs.Runs.{History, IsClosed, Stands, Prints}
+use Rattle.room.specs.Sealings.{Sealed}
 use Rattle.room.specs.declared.register.RegisterEntry.{RegisterEntry}
 use Rattle.room.specs.declared.sheet.SheetEntry.{SheetEntry}
 use Rattle.room.proofs.Holding.{Held}
@@ -26,36 +26,36 @@ use Rattle.room.proofs.ClosedRooms.{IsMakeable, ClosedRoom, closed_room}
 use Rattle.room.proofs.SealedBids.{HasKey, bid_in, sealed_in, sealed_head}
 
 -- What stands in a closed room.
-module _ (s : Sale) (es : List Bytes) (r : ClosedRoom s es) (b : ℕ) where
-  stands_so : (n : ℕ) → StandingAmount s es b n → Stands r.x b n
-  stands_so n = subst₂ (λ t fs. StandingAmount t fs b n) (sym r.of_the_sale) (sym r.envelopes_are)
+module _ (s : Sale) (ls : List Lodging) (r : ClosedRoom s ls) (b : ℕ) where
+  stands_so : (n : ℕ) → StandingAmount s ls b n → Stands r.x b n
+  stands_so n = subst₂ (λ t ms. StandingAmount t ms b n) (sym r.of_the_sale) (sym r.lodgings_are)
 
-  its_held : Held s es b (room_kept r.x b)
-  its_held = subst₂ (λ t fs. Held t fs b (room_kept r.x b)) r.of_the_sale r.envelopes_are (room_holds r.x b)
+  its_held : Held s ls b (room_kept r.x b)
+  its_held = subst₂ (λ t ms. Held t ms b (room_kept r.x b)) r.of_the_sale r.lodgings_are (room_holds r.x b)
 
   -- A bid stands where no other one of its bidder has as high a sequence.
-  module _ (n : ℕ) (e : Bytes) (q : Sealed s s.lot b n e) (up : 1 ≤ n) (at : Among es e)
-      (only : (x : Bytes) → Among es x → bidder_of x ≡ b → sequence_of e ≤ sequence_of x → x ≡ e) where
-    e_genuine : Genuine s e
-    e_genuine = bid_genuine s s.lot b n e q refl up
+  module _ (n : ℕ) (l : Lodging) (q : Sealed s s.lot b n l.envelope) (up : 1 ≤ n) (at : Among ls l)
+      (only : (x : Lodging) → Among ls x → bidder_of x.envelope ≡ b → sequence_of l.envelope ≤ sequence_of x.envelope → x ≡ l) where
+    l_genuine : Genuine s l
+    l_genuine = bid_genuine s s.lot b n l.envelope q refl up
 
-    e_of : bidder_of e ≡ b
-    e_of = bid_bidder s s.lot b n e q
+    l_of : bidder_of l.envelope ≡ b
+    l_of = bid_bidder s s.lot b n l.envelope q
 
-    standing_by : (o : Option Bytes) → Held s es b o → Standing s es b e
-    standing_by None h = absurd (h at.0 e at.1 e_genuine e_of)
-    standing_by (Some f) h = subst (Standing s es b) (only f (h.place, h.there) h.of (h.highest at.0 e at.1 e_genuine e_of)) h
+    standing_by : (o : Option Bytes) → Held s ls b o → Standing s ls b l
+    standing_by None h = absurd (h at.0 l at.1 l_genuine l_of)
+    standing_by (Some e) (m, h, is) = subst (Standing s ls b) (only m (h.place, h.there) h.of (h.highest at.0 l at.1 l_genuine l_of)) h
 
     pub bid_stands : Stands r.x b q.amount
-    bid_stands = stands_so q.amount (inl (e, standing_by (room_kept r.x b) its_held, sym (bid_amount s s.lot b n e q)))
+    bid_stands = stands_so q.amount (inl (l, standing_by (room_kept r.x b) its_held, sym (bid_amount s s.lot b n l.envelope q)))
 
-  -- Where no envelope is a bidder's, 0 stands.
-  pub none_stands : ((x : Bytes) → Among es x → bidder_of x ≡ b → ⊥) → Stands r.x b 0
-  none_stands none = stands_so 0 (inr (λ e st. none e (st.place, st.there) st.of, refl))
+  -- Where no lodging is a bidder's, 0 stands.
+  pub none_stands : ((x : Lodging) → Among ls x → bidder_of x.envelope ≡ b → ⊥) → Stands r.x b 0
+  none_stands none = stands_so 0 (inr (λ l st. none l (st.place, st.there) st.of, refl))
 
-all_among : (P : Bytes → Type 0) (es : List Bytes) → ((x : Bytes) → Among es x → P x) → AllByRecursion P es
+all_among : (P : Lodging → Type 0) (ls : List Lodging) → ((x : Lodging) → Among ls x → P x) → AllByRecursion P ls
 all_among P [] h = tt
-all_among P (e ∷ es) h = (h e (0, refl), all_among P es (λ x at. h x (suc at.0, at.1)))
+all_among P (l ∷ ls) h = (h l (0, refl), all_among P ls (λ x at. h x (suc at.0, at.1)))
 
 known_still : (t u : Bool) → u ≡ true → cond t true u ≡ true
 known_still true u h = refl
@@ -64,59 +64,59 @@ known_still false u h = h
 -- A closed room of a sale in which a function's amounts stand.
 pub record RoomOf (s : Sale) (f : ℕ → ℕ) : Type 0 where
   pub x : History
-  pub of_the_sale : sale x ≡ s
+  pub of_the_sale : x.sale ≡ s
   pub is_closed : IsClosed x
   pub stands : (b : ℕ) → Stands x b (f b)
 
 module _ (s : Sale) (m : IsMakeable s) (keys : AllByRecursion HasKey s.register)
     (f : ℕ → ℕ) (affordable : (b : ℕ) → f b ≤ most_cents)
-    (unlisted : (b : ℕ) → (registered s.register b ≡ true → ⊥) → f b ≡ 0) where
-  abbrev bid_of : ℕ → Bytes
+    (unlisted : (b : ℕ) → (is_registered s.register b ≡ true → ⊥) → f b ≡ 0) where
+  abbrev bid_of : ℕ → Lodging
   bid_of b = bid_in s b 1 (f b)
 
-  abbrev sealed_of : (b : ℕ) → registered s.register b ≡ true → Sealed s s.lot b 1 (bid_of b)
+  abbrev sealed_of : (b : ℕ) → is_registered s.register b ≡ true → Sealed s s.lot b 1 (bid_of b).envelope
   sealed_of b k = sealed_in s m keys b 1 (f b) k (omega arith) (affordable b)
 
   -- A bid of each registered bidder: one of amount 0 offers nothing.
-  abbrev bids : List RegisterEntry → List Bytes
+  abbrev bids : List RegisterEntry → List Lodging
   bids xs = map (λ x. bid_of x.bidder) xs
 
-  abbrev IsBid : List RegisterEntry → Bytes → Type 0
-  IsBid xs e = (b : ℕ) × (registered xs b ≡ true) × (e ≡ bid_of b)
+  abbrev IsBid : List RegisterEntry → Lodging → Type 0
+  IsBid xs l = (b : ℕ) × (is_registered xs b ≡ true) × (l ≡ bid_of b)
 
-  from_bids : (xs : List RegisterEntry) (e : Bytes) → Among (bids xs) e → IsBid xs e
-  from_bids [] e (i, h) = let z : ◌≡◌ {A = ℕ} 0 1 = cc in absurd (omega arith)
-  from_bids (x ∷ xs) e (zero, h) = (x.bidder, ap (λ t. cond t true (registered xs x.bidder)) (eq-eqb x.bidder x.bidder refl), sym cc)
-  from_bids (x ∷ xs) e (suc i, h) = let r = from_bids xs e (i, h) in (r.0, known_still (eqb x.bidder r.0) (registered xs r.0) r.1, r.2)
+  from_bids : (xs : List RegisterEntry) (l : Lodging) → Among (bids xs) l → IsBid xs l
+  from_bids [] l (i, h) = let z : ◌≡◌ {A = ℕ} 0 1 = cc in absurd (omega arith)
+  from_bids (x ∷ xs) l (zero, h) = (x.bidder, ap (λ t. cond t true (is_registered xs x.bidder)) (eq-eqb x.bidder x.bidder refl), sym cc)
+  from_bids (x ∷ xs) l (suc i, h) = let r = from_bids xs l (i, h) in (r.0, known_still (eqb x.bidder r.0) (is_registered xs r.0) r.1, r.2)
 
-  in_bids : (xs : List RegisterEntry) (b : ℕ) → registered xs b ≡ true → Among (bids xs) (bid_of b)
+  in_bids : (xs : List RegisterEntry) (b : ℕ) → is_registered xs b ≡ true → Among (bids xs) (bid_of b)
   in_bids [] b k = absurd (both_ways false refl k)
   in_bids (x ∷ xs) b k = go (eqb x.bidder b) refl k (in_bids xs b)
     where
-      go : (t : Bool) → eqb x.bidder b ≡ t → cond t true (registered xs b) ≡ true
-          → (registered xs b ≡ true → Among (bids xs) (bid_of b)) → Among (bids (x ∷ xs)) (bid_of b)
+      go : (t : Bool) → eqb x.bidder b ≡ t → cond t true (is_registered xs b) ≡ true
+          → (is_registered xs b ≡ true → Among (bids xs) (bid_of b)) → Among (bids (x ∷ xs)) (bid_of b)
       go true same l ih = (0, ap (λ c. Some (bid_of c)) (eqb-true _ _ same))
       go false other l ih = let at = ih l in (suc at.0, at.1)
 
   -- A bidder's bid is its one, and none is of a bidder who is not registered.
-  its_bid : (b : ℕ) (x : Bytes) → Among (bids s.register) x → bidder_of x ≡ b
-      → (registered s.register b ≡ true) × (x ≡ bid_of b)
+  its_bid : (b : ℕ) (x : Lodging) → Among (bids s.register) x → bidder_of x.envelope ≡ b
+      → (is_registered s.register b ≡ true) × (x ≡ bid_of b)
   its_bid b x at of =
       let i = from_bids s.register x at in
-      let same : i.0 ≡ b = sym (ap bidder_of i.2 ∙ bid_bidder s s.lot i.0 1 (bid_of i.0) (sealed_of i.0 i.1)) ∙ of in
-      (subst (λ c. registered s.register c ≡ true) same i.1, i.2 ∙ ap bid_of same)
+      let same : i.0 ≡ b = sym (ap (λ l. bidder_of l.envelope) i.2 ∙ bid_bidder s s.lot i.0 1 (bid_of i.0).envelope (sealed_of i.0 i.1)) ∙ of in
+      (subst (λ c. is_registered s.register c ≡ true) same i.1, i.2 ∙ ap bid_of same)
 
   room : ClosedRoom s (bids s.register)
-  room = closed_room s m (bids s.register) (all_among HasHead (bids s.register) (λ x at.
+  room = closed_room s m (bids s.register) (all_among (λ l. HasHead l.envelope) (bids s.register) (λ x at.
       let i = from_bids s.register x at in
-      subst HasHead (sym i.2) (sealed_head s s.lot i.0 1 (bid_of i.0) (sealed_of i.0 i.1))))
+      subst (λ l. HasHead l.envelope) (sym i.2) (sealed_head s s.lot i.0 1 (bid_of i.0).envelope (sealed_of i.0 i.1))))
 
-  its_amount : (b : ℕ) (t : Bool) → registered s.register b ≡ t → Stands room.x b (f b)
+  its_amount : (b : ℕ) (t : Bool) → is_registered s.register b ≡ t → Stands room.x b (f b)
   its_amount b true k =
       bid_stands s (bids s.register) room b 1 (bid_of b) (sealed_of b k) (omega arith) (in_bids s.register b k)
       (λ x at of higher. (its_bid b x at of).1)
   its_amount b false out =
-      let unknown : registered s.register b ≡ true → ⊥ = both_ways (registered s.register b) out in
+      let unknown : is_registered s.register b ≡ true → ⊥ = both_ways (is_registered s.register b) out in
       subst (Stands room.x b) (sym (unlisted b unknown))
       (none_stands s (bids s.register) room b (λ x at of. unknown (its_bid b x at of).0))
 
@@ -125,7 +125,7 @@ module _ (s : Sale) (m : IsMakeable s) (keys : AllByRecursion HasKey s.register)
     x = room.x;
     of_the_sale = room.of_the_sale;
     is_closed = room.is_closed;
-    stands = λ b. its_amount b (registered s.register b) refl;
+    stands = λ b. its_amount b (is_registered s.register b) refl;
   }
 
 -- 1 to 64 bidders that rise strictly, each with an amount that a bid may have, or 0 for one from whom nothing stands.
@@ -141,12 +141,12 @@ pub record CanStand (amounts : List SheetEntry) : Type 0 where
 pub record RoomWith (v : Variant) (lot : ℕ) (terms : Bytes) (amounts : List SheetEntry) : Type 0 where
   pub x : History
   pub register : List RegisterEntry
-  pub of_the_sale : sale x ≡ record { variant = v; lot = lot; terms = terms; register = register }
+  pub of_the_sale : x.sale ≡ record { variant = v; lot = lot; terms = terms; register = register }
   pub bidders : map (λ e. e.bidder) register ≡ map (λ a. a.bidder) amounts
   pub keys : AllByRecursion HasKey register
   pub is_closed : IsClosed x
   pub listed_stand : AllByRecursion (λ a. Stands x a.bidder a.amount) amounts
-  pub others_stand_with_0 : (b : ℕ) → (registered register b ≡ true → ⊥) → Stands x b 0
+  pub others_stand_with_0 : (b : ℕ) → (is_registered register b ≡ true → ⊥) → Stands x b 0
   pub prints : Prints x (page lot (above_0 amounts))
 
 -- A bidder of the list in the register, under some key.
@@ -186,12 +186,12 @@ found_affordable (a ∷ xs) b h = go (eqb a.bidder b) (found_affordable xs b h.1
     go true ih = h.0
     go false ih = ih
 
-found_nowhere : (xs : List SheetEntry) (b : ℕ) → (registered (register_for xs) b ≡ true → ⊥) → found xs b ≡ 0
+found_nowhere : (xs : List SheetEntry) (b : ℕ) → (is_registered (register_for xs) b ≡ true → ⊥) → found xs b ≡ 0
 found_nowhere [] b out = refl
 found_nowhere (a ∷ xs) b out = go (eqb a.bidder b) out (found_nowhere xs b)
   where
-    go : (t : Bool) → (cond t true (registered (register_for xs) b) ≡ true → ⊥)
-        → ((registered (register_for xs) b ≡ true → ⊥) → found xs b ≡ 0)
+    go : (t : Bool) → (cond t true (is_registered (register_for xs) b) ≡ true → ⊥)
+        → ((is_registered (register_for xs) b ≡ true → ⊥) → found xs b ≡ 0)
         → cond t a.amount (found xs b) ≡ 0
     go true out ih = absurd (out refl)
     go false out ih = ih out

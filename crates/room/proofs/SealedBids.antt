@@ -9,8 +9,8 @@ use Rattle.envelope.specs.Envelopes.{bid, envelope_size, head_part}
 use Rattle.envelope.specs.Calls.{bid_answer}
 use Rattle.envelope.proofs.Laws.{bid_head}
 use Rattle.engine.specs.declared.variants.Variant.{Variant}
-use Rattle.room.specs.Sales.{Bytes, Sale, registered, key_of}
-use Rattle.room.specs.Promise.{Sealed}
+use Rattle.room.specs.Sales.{Bytes, Sale, Lodging, is_registered, key_of}
+use Rattle.room.specs.Sealings.{Sealed}
 use Rattle.room.specs.declared.register.RegisterEntry.{RegisterEntry}
 use Rattle.room.proofs.Bids.{bid_lot, bid_bidder, bid_sequence}
 use Rattle.room.proofs.CodeMaking.{Fits}
@@ -21,13 +21,13 @@ abbrev pub HasKey : RegisterEntry → Type 0
 HasKey x = length x.key ≡ 16
 
 -- The entry of a registered bidder.
-pub entry_for : (P : RegisterEntry → Type 0) (xs : List RegisterEntry) (b : ℕ) → AllByRecursion P xs → registered xs b ≡ true
+pub entry_for : (P : RegisterEntry → Type 0) (xs : List RegisterEntry) (b : ℕ) → AllByRecursion P xs → is_registered xs b ≡ true
     → (x : RegisterEntry) × P x × (x.bidder ≡ b) × (key_of xs b ≡ x.key)
 entry_for P [] b all known = absurd (both_ways false refl known)
 entry_for P (x ∷ xs) b all known = go (eqb x.bidder b) refl known (entry_for P xs b all.1)
   where
-    go : (t : Bool) → eqb x.bidder b ≡ t → cond t true (registered xs b) ≡ true
-        → (registered xs b ≡ true → (y : RegisterEntry) × P y × (y.bidder ≡ b) × (key_of xs b ≡ y.key))
+    go : (t : Bool) → eqb x.bidder b ≡ t → cond t true (is_registered xs b) ≡ true
+        → (is_registered xs b ≡ true → (y : RegisterEntry) × P y × (y.bidder ≡ b) × (key_of xs b ≡ y.key))
         → (y : RegisterEntry) × P y × (y.bidder ≡ b) × (cond t x.key (key_of xs b) ≡ y.key)
     go true same k ih = (x, all.0, eqb-true _ _ same, refl)
     go false other k ih = ih k
@@ -38,12 +38,12 @@ pub sealing_granted : (v : Variant) (key place : Bytes) (amount : ℕ)
 sealing_granted v key place amount k l affordable = rw (eq-eqb _ _ k, eq-eqb _ _ l, le-leb _ _ affordable) refl
 
 module _ (s : Sale) where
-  -- The bid of an amount in a sale, with the sequence n and no note.
-  abbrev pub bid_in : ℕ → ℕ → ℕ → Bytes
-  bid_in b n amount = bid s.variant (key_of s.register b) s.terms s.lot b n amount []
+  -- The lodging of a bid of an amount in a sale, with the sequence n and no note.
+  abbrev pub bid_in : ℕ → ℕ → ℕ → Lodging
+  bid_in b n amount = record { envelope = bid s.variant (key_of s.register b) s.terms s.lot b n amount [] }
 
   abbrev pub sealed_in : IsMakeable s → AllByRecursion HasKey s.register → (b n amount : ℕ)
-      → registered s.register b ≡ true → n < 2 ^ 32 → amount ≤ most_cents → Sealed s s.lot b n (bid_in b n amount)
+      → is_registered s.register b ≡ true → n < 2 ^ 32 → amount ≤ most_cents → Sealed s s.lot b n (bid_in b n amount).envelope
   sealed_in m keys b n amount known small affordable =
       let fit = entry_for Fits s.register b m.bidders known in
       let keyed = entry_for HasKey s.register b keys known in

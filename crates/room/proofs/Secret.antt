@@ -1,21 +1,17 @@
 -- Until the closing a room answers the same whatever the letters are.
-use Rattle.std.proofs.Common.{◌≡◌, ℕ, Bool, true, false, cond, eqb, ◌⊎◌, List, [], ◌∷◌, length, Some, Ok, Err, sym, refl, ap, ◌∙◌, subst, ap₂, subst₂, inl, inr}
+use Rattle.std.proofs.Common.{◌≡◌, ℕ, Bool, true, false, cond, eqb, List, [], ◌∷◌, length, Some, Ok, Err, sym, refl, ap, ◌∙◌, ap₂}
 use Rattle.std.specs.List.{AllZip}
 use Rattle.std.specs.Str.{bytes_eq}
 use Rattle.std.proofs.lemmas.Slice.Eq.{bytes_eq-Decides}
 use Rattle.envelope.specs.Heads.{lot_of, bidder_of, sequence_of}
 use Rattle.envelope.specs.Envelopes.{tag_part}
-use Rattle.room.specs.Sales.{Bytes, Sale, tag_due}
+use Rattle.room.specs.Sales.{Bytes, Sale, Lodging, tag_due}
 use Rattle.room.specs.Rooms.{sequence_in}
-use Rattle.room.specs.Calls.{Call, Lodging, Asking, Closing, Opening, Answer, Sizes}
+use Rattle.room.specs.Calls.{Call, LodgingOf, Asking, Closing, Opening, Answer, Sizes}
 use Rattle.room.specs.Runs.{answers_to_closing}
-use Rattle.room.specs.Promise.{Sealed}
-use Rattle.room.proofs.Law.{Kept, Taking, verdict_by, verdict, settled, renewed, asked, meetings}
+use Rattle.room.specs.Sealings.{Sealed, SameButForALetter, equal_calls, but_for_a_letter}
+use Rattle.room.proofs.Law.{Kept, Taking, verdict_by, verdict, kept_after, kept_with, asking_answer, meetings}
 use Rattle.room.proofs.Bids.{bid_long, bid_lot, bid_bidder, bid_sequence, bid_right}
-
-abbrev pub ButALetter : Sale → Call → Call → Type 0
-ButALetter s c d =
-    (c ≡ d) ⊎ ((lot : ℕ) × (bidder : ℕ) × (sequence : ℕ) × (e : Bytes) × (f : Bytes) × Sealed s lot bidder sequence e × Sealed s lot bidder sequence f × (c ≡ Lodging e) × (d ≡ Lodging f))
 
 module _ (s : Sale) where
   -- All of an envelope that an answer before closing can hang on.
@@ -46,46 +42,46 @@ module _ (s : Sale) where
     same_last : sequence_in (k (bidder_of x)) ≡ sequence_in (l (bidder_of y))
     same_last = ap (λ b. sequence_in (k b)) t.bidder ∙ a (bidder_of y)
 
-    same_verdict : verdict s k x ≡ verdict s l y
+    same_verdict : verdict s k (record { envelope = x }) ≡ verdict s l (record { envelope = y })
     same_verdict = λ i. verdict_by s (t.long i) (t.lot i) (t.bidder i) (t.sequence i) (same_last i) (t.right i)
 
-    same_renewed : (b : ℕ) → sequence_in (renewed x k b) ≡ sequence_in (renewed y l b)
-    same_renewed b = ap (λ c. sequence_in (cond (eqb c b) (Some x) (k b))) t.bidder ∙ go (eqb (bidder_of y) b)
+    same_kept_with : (b : ℕ) → sequence_in (kept_with x k b) ≡ sequence_in (kept_with y l b)
+    same_kept_with b = ap (λ c. sequence_in (cond (eqb c b) (Some x) (k b))) t.bidder ∙ go (eqb (bidder_of y) b)
       where
         go : (c : Bool) → sequence_in (cond c (Some x) (k b)) ≡ sequence_in (cond c (Some y) (l b))
         go true = t.sequence
         go false = a b
 
-    same_settled : (v : Answer) → Alike (settled v k x) (settled v l y)
-    same_settled (Ok n) b = same_renewed b
-    same_settled (Err f) b = a b
+    same_kept_after : (v : Answer) → Alike (kept_after v k x) (kept_after v l y)
+    same_kept_after (Ok n) b = same_kept_with b
+    same_kept_after (Err f) b = a b
 
   data SameCall : Call → Call → Type 0 where
-    lodges : {x y : Bytes} → Twins x y → SameCall (Lodging x) (Lodging y)
+    lodges : {x y : Lodging} → Twins x.envelope y.envelope → SameCall (LodgingOf x) (LodgingOf y)
     asks : {b : ℕ} → SameCall (Asking b) (Asking b)
     closes : SameCall Closing Closing
     opens : {o : Sizes} → SameCall (Opening o) (Opening o)
 
   same_call : (c : Call) → SameCall c c
-  same_call (Lodging x) = lodges (twins_refl x)
+  same_call (LodgingOf x) = lodges (twins_refl x.envelope)
   same_call (Asking b) = asks
   same_call Closing = closes
   same_call (Opening o) = opens
 
-  same_but_letter : (c d : Call) → ButALetter s c d → SameCall c d
-  same_but_letter c d (inl e) = subst (SameCall c) e (same_call c)
-  same_but_letter c d (inr (l, b, n, x, y, p, q, e, f)) = subst₂ SameCall (sym e) (sym f) (lodges (twins_sealed l b n x y p q))
+  same_but_letter : {c d : Call} → SameButForALetter s c d → SameCall c d
+  same_but_letter (equal_calls {c}) = same_call c
+  same_but_letter (but_for_a_letter {lot} {bidder} {sequence} {l} {m} p q) = lodges (twins_sealed lot bidder sequence l.envelope m.envelope p q)
 
   step : (c d : Call) (cs ds : List Call) → SameCall c d → ((k l : Kept) → Alike k l → answers_to_closing (meetings s (Taking k) cs) ≡ answers_to_closing (meetings s (Taking l) ds)) → (k l : Kept) → Alike k l → answers_to_closing (meetings s (Taking k) (c ∷ cs)) ≡ answers_to_closing (meetings s (Taking l) (d ∷ ds))
   step c d cs ds (lodges {x} {y} t) ih k l a =
-      ap (λ v. v ∷ answers_to_closing (meetings s (Taking (settled v k x)) cs)) (same_verdict k l a x y t)
-      ∙ ap (λ r. verdict s l y ∷ r) (ih _ _ (same_settled k l a x y t (verdict s l y)))
-  step c d cs ds (asks {b}) ih k l a = ap₂ ◌∷◌ (ap (asked s b) (a b)) (ih k l a)
+      ap (λ v. v ∷ answers_to_closing (meetings s (Taking (kept_after v k x.envelope)) cs)) (same_verdict k l a x.envelope y.envelope t)
+      ∙ ap (λ r. verdict s l y ∷ r) (ih _ _ (same_kept_after k l a x.envelope y.envelope t (verdict s l y)))
+  step c d cs ds (asks {b}) ih k l a = ap₂ ◌∷◌ (ap (asking_answer s b) (a b)) (ih k l a)
   step c d cs ds closes ih k l a = refl
   step c d cs ds opens ih k l a = ap₂ ◌∷◌ refl (ih k l a)
 
-  pub secret : (cs ds : List Call) → AllZip (ButALetter s) cs ds → (k l : Kept) → Alike k l → answers_to_closing (meetings s (Taking k) cs) ≡ answers_to_closing (meetings s (Taking l) ds)
+  pub secret : (cs ds : List Call) → AllZip (SameButForALetter s) cs ds → (k l : Kept) → Alike k l → answers_to_closing (meetings s (Taking k) cs) ≡ answers_to_closing (meetings s (Taking l) ds)
   secret [] [] h k l a = refl
   secret [] (d ∷ ds) h k l a = absurd h
   secret (c ∷ cs) [] h k l a = absurd h
-  secret (c ∷ cs) (d ∷ ds) h k l a = step c d cs ds (same_but_letter c d h.0) (secret cs ds h.1) k l a
+  secret (c ∷ cs) (d ∷ ds) h k l a = step c d cs ds (same_but_letter h.0) (secret cs ds h.1) k l a

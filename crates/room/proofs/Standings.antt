@@ -4,7 +4,7 @@ use Rattle.std.specs.List.{AllByRecursion}
 use Rattle.std.proofs.ByRecursion.{All-weaker}
 use Rattle.room.specs.Sales.{Bytes}
 use Rattle.room.specs.Page.{page}
-use Rattle.room.specs.Runs.{History, sale, IsClosed, envelopes, Stands, Prints}
+use Rattle.room.specs.Runs.{History, IsClosed, lodgings, Stands, Prints}
 use Rattle.room.specs.declared.register.RegisterEntry.{RegisterEntry}
 use Rattle.room.specs.declared.sheet.SheetEntry.{SheetEntry}
 use Rattle.room.proofs.Law.{sheet_by}
@@ -30,18 +30,18 @@ sheet_above_0 f (x ∷ xs) (a ∷ ys) same all =
 
 -- The amounts of a list stand in a room, whose bidders are just those of the list.
 pub record AmountsStand (x : History) (ys : List SheetEntry) : Type 0 where
-  pub bidders : map (λ e. e.bidder) (sale x).register ≡ map (λ a. a.bidder) ys
+  pub bidders : map (λ e. e.bidder) x.sale.register ≡ map (λ a. a.bidder) ys
   pub stand : AllByRecursion (λ a. Stands x a.bidder a.amount) ys
 
 module _ (x : History) (closed : IsClosed x) (ys : List SheetEntry) (are : AmountsStand x ys) where
-  pub page_above_0 : (p : Bytes) → Prints x p → p ≡ page (sale x).lot (above_0 ys)
+  pub page_above_0 : (p : Bytes) → Prints x p → p ≡ page x.sale.lot (above_0 ys)
   page_above_0 p h =
       let l = left_by x closed p h in
-      let f : ℕ → ℕ = amounts (sale x) (envelopes x) p l in
+      let f : ℕ → ℕ = amounts x.sale (lodgings x) p l in
       let found : AllByRecursion (λ a. f a.bidder ≡ a.amount) ys =
       All-weaker (λ a. Stands x a.bidder a.amount) (λ a. f a.bidder ≡ a.amount)
-      (λ a st. sym (amount_only (sale x) (envelopes x) p l a.bidder a.amount st)) ys are.stand in
-      l.is ∙ ap (page (sale x).lot) (sheet_above_0 f (sale x).register ys are.bidders found)
+      (λ a st. sym (amount_only x.sale (lodgings x) p l a.bidder a.amount st)) ys are.stand in
+      l.is ∙ ap (page x.sale.lot) (sheet_above_0 f x.sale.register ys are.bidders found)
 
-  pub prints_above_0 : Prints x (page (sale x).lot (above_0 ys))
+  pub prints_above_0 : Prints x (page x.sale.lot (above_0 ys))
   prints_above_0 = let p = some_page x closed in subst (Prints x) (page_above_0 _ p) p

@@ -7,7 +7,7 @@ use Rattle.std.proofs.lemmas.Slice.Eq.{bytes_eq-Decides}
 use Rattle.fault.specs.Checks.{Check, decision}
 use Rattle.envelope.specs.Heads.{lot_of, bidder_of, sequence_of}
 use Rattle.envelope.specs.Envelopes.{tag_part}
-use Rattle.room.specs.Sales.{Bytes, Sale, Genuine, tag_due}
+use Rattle.room.specs.Sales.{Sale, Lodging, Genuine, tag_due}
 use Rattle.room.specs.Rooms.{sequence_in}
 use Rattle.room.proofs.Law.{Kept, checks_by, verdict_by, verdict}
 use Rattle.room.specs.declared.faults.RoomFault.{RoomFault}
@@ -34,12 +34,15 @@ granted_value {X} {F} cs x y h =
     let e : ◌≡◌ {A = Result X F} (Ok x) (Ok y) = sym g ∙ h in
     cc
 
-module _ (s : Sale) (k : Kept) (e : Bytes) where
+module _ (s : Sale) (k : Kept) (l : Lodging) where
+  abbrev e : List ℕ
+  e = l.envelope
+
   abbrev checks : List (Check RoomFault)
   checks =
       checks_by s (length e) (lot_of e) (bidder_of e) (sequence_of e) (sequence_in (k (bidder_of e))) (bytes_eq (tag_part e) (tag_due s e))
 
-  pub granted : (n : ℕ) → verdict s k e ≡ Ok n → Genuine s e × (sequence_in (k (bidder_of e)) < sequence_of e)
+  pub granted : (n : ℕ) → verdict s k l ≡ Ok n → Genuine s l × (sequence_in (k (bidder_of e)) < sequence_of e)
   unfolding verdict_by
   granted n h =
       let p = passes checks (sequence_of e) n h in
@@ -54,7 +57,7 @@ module _ (s : Sale) (k : Kept) (e : Bytes) where
         up,
       )
 
-  pub grants : Genuine s e → sequence_in (k (bidder_of e)) < sequence_of e → verdict s k e ≡ Ok (sequence_of e)
+  pub grants : Genuine s l → sequence_in (k (bidder_of e)) < sequence_of e → verdict s k l ≡ Ok (sequence_of e)
   unfolding verdict_by
   grants g up =
       grants_all checks (sequence_of e) (eq-eqb _ _ g.long, (eq-eqb _ _ g.lot, (g.known, (lt-ltb _ _ up, ((bytes_eq-Decides _ _).1 g.right, tt)))))

@@ -9,8 +9,8 @@ use Rattle.room.specs.declared.faults.RoomFault.TheVariants.{Closed, NotClosed}
 use Rattle.room.specs.declared.slots.Phase.{Phase}
 
 -- Lodging and closing ask for an open room, opening for a closed one, and asking for neither.
-abbrev pub admitted : Phase → Op → Result (Unit {0}) RoomFault
-admitted p Lodge = decision ((is_open p, Closed) ∷ []) tt
-admitted p Ask = Ok tt
-admitted p Close = decision ((is_open p, Closed) ∷ []) tt
-admitted p Open = decision ((is_closed p, NotClosed) ∷ []) tt
+abbrev pub admission : Phase → Op → Result (Unit {0}) RoomFault
+admission p Lodge = decision ((is_open p, Closed) ∷ []) tt
+admission p Ask = Ok tt
+admission p Close = decision ((is_open p, Closed) ∷ []) tt
+admission p Open = decision ((is_closed p, NotClosed) ∷ []) tt

@@ -1,4 +1,5 @@
 pub mod Faults
+pub mod Limits
 pub mod Sales
 pub mod Page
 pub mod Places
@@ -11,6 +12,10 @@ pub mod Reading
 pub mod Making
 pub mod Opening
 pub mod Runs
+pub mod ExactlyOne
+pub mod Sealings
+pub mod RoomsThatDifferInALetter
+pub mod RoomsThatDifferInOrder
 pub mod Promise
 pub mod CallLaws
 pub mod Lot17

@@ -2,5 +2,5 @@
 use Rattle.std.specs.Prelude.{ℕ, ◌+◌, List, ◌++◌, length, take, drop}
 
 -- The bytes of a place with others written over them from `at` on.
-abbrev pub written_at : List ℕ → ℕ → List ℕ → List ℕ
-written_at old at new = take at old ++ (new ++ drop (at + length new) old)
+abbrev pub place_with_at : List ℕ → ℕ → List ℕ → List ℕ
+place_with_at old at new = take at old ++ (new ++ drop (at + length new) old)

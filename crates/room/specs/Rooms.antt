@@ -1,5 +1,5 @@
 -- What a room holds, as its callers know it, and what a place of the program holds of it.
-use Rattle.std.specs.Prelude.{ℕ, cond, List, [], ◌∷◌, ◌++◌, map, length, take, drop, Some, None, Option, ◌==◌}
+use Rattle.std.specs.Prelude.{ℕ, if◌then◌else◌, List, [], ◌∷◌, ◌++◌, map, length, take, drop, Some, None, Option, ◌==◌}
 use Rattle.engine.specs.declared.variants.Variant.{Variant}
 use Rattle.cipher.specs.Mode.{tag_size}
 use Rattle.envelope.specs.Heads.{head, bidder_of, sequence_of}
@@ -37,7 +37,7 @@ sale_of r = record { variant = r.variant; lot = r.lot; terms = r.terms; register
 -- The last accepted envelope of a bidder.
 abbrev pub kept_for : List Holding → ℕ → Option Bytes
 kept_for [] b = None
-kept_for (h ∷ hs) b = cond (h.bidder == b) h.envelope (kept_for hs b)
+kept_for (h ∷ hs) b = if h.bidder == b then h.envelope else kept_for hs b
 
 -- The last accepted sequence: 0 where no envelope was accepted.
 abbrev pub sequence_in : Option Bytes → ℕ
@@ -45,32 +45,41 @@ sequence_in None = 0
 sequence_in (Some e) = sequence_of e
 
 -- What is held after an envelope is accepted: it takes the place of the one that was kept for its bidder.
-abbrev pub accepted : Bytes → List Holding → List Holding
-accepted e [] = []
-accepted e (h ∷ hs) =
-    cond (h.bidder == bidder_of e) (record { bidder = h.bidder; key = h.key; envelope = Some e } ∷ hs) (h ∷ accepted e hs)
+abbrev pub holdings_with : Bytes → List Holding → List Holding
+holdings_with e [] = []
+holdings_with e (h ∷ hs) =
+    if h.bidder == bidder_of e
+    then record { bidder = h.bidder; key = h.key; envelope = Some e } ∷ hs
+    else h ∷ holdings_with e hs
 
 -- A slot after an envelope of a sequence is accepted: only the first bytes of the tag are used by variants with short tags.
-abbrev pub filled : Slot → ℕ → Bytes → Slot
-filled x n e =
-    record { bidder = x.bidder; key = x.key; sequence = n; letter = sealed_part e; tag = tag_part e ++ drop (length (tag_part e)) x.tag }
+abbrev pub filled_slot : Slot → ℕ → Bytes → Slot
+filled_slot x n e =
+    record x {
+      sequence = n;
+      letter = sealed_part e;
+      tag = tag_part e ++ drop (length (tag_part e)) x.tag;
+    }
 
 -- The slots after an envelope is accepted: the first one of its bidder is filled, and the others are as they were.
-abbrev pub filled_in : Bytes → List Slot → List Slot
-filled_in e [] = []
-filled_in e (x ∷ xs) = cond (x.bidder == bidder_of e) (filled x (sequence_of e) e ∷ xs) (x ∷ filled_in e xs)
+abbrev pub slots_with : Bytes → List Slot → List Slot
+slots_with e [] = []
+slots_with e (x ∷ xs) =
+    if x.bidder == bidder_of e then filled_slot x (sequence_of e) e ∷ xs else x ∷ slots_with e xs
 
 -- The envelope that a slot keeps, of which the head is kept as numbers: none at sequence 0.
 abbrev pub envelope_in : Variant → ℕ → Slot → Option Bytes
 envelope_in v lot x =
-    cond (x.sequence == 0) None (Some (head lot x.bidder x.sequence ++ (x.letter ++ take (tag_size v) x.tag)))
+    if x.sequence == 0
+    then None
+    else Some (head lot x.bidder x.sequence ++ (x.letter ++ take (tag_size v) x.tag))
 
 abbrev pub holding_of : Variant → ℕ → Slot → Holding
 holding_of v lot x = record { bidder = x.bidder; key = x.key; envelope = envelope_in v lot x }
 
 -- The room that a place of the program holds, above an engine of a variant.
-abbrev pub contents : Variant → RoomState → Contents
-contents v s = record {
+abbrev pub contents_of : Variant → RoomState → Contents
+contents_of v s = record {
   variant = v;
   lot = s.lot;
   terms = take s.terms_bytes s.terms;

@@ -1,6 +1,6 @@
 // Which calls a room admits in its phase.
 ghost use Rattle.std.specs.Prelude.{◌≡◌};
-ghost use Rattle.room.specs.Admission.{admitted};
+ghost use Rattle.room.specs.Admission.{admission};
 
 use crate::faults::RoomFault;
 use crate::slots::Phase;
@@ -18,7 +18,7 @@ pub(crate) enum Op {
 impl RoomState {
     // Refuses a call that does not fit the phase.
     pub(crate) fn admits(&self, op: Op) -> Result<(), RoomFault>
-        ensures { result ≡ admitted self.now.phase op }
+        ensures { result ≡ admission self.now.phase op }
     {
         match (self.phase, op) {
             (Phase::Open, Op::Lodge | Op::Close) | (_, Op::Ask) | (Phase::Closed, Op::Open) => {

@@ -4,7 +4,8 @@ ghost use Rattle.fault.specs.Checks.{decision, by_answer};
 ghost use Rattle.engine.specs.declared.variants.Variant.{Variant as Kind};
 ghost use Rattle.cipher.specs.Mode.{tag_size};
 ghost use Rattle.envelope.specs.Parts.{bid_seen, bid_of};
-ghost use Rattle.room.specs.Calls.{Lodging, Asking, Closing, Met, without_number, head_checks};
+ghost use Rattle.room.specs.Sales.{Lodging};
+ghost use Rattle.room.specs.Calls.{LodgingOf, Asking, Closing, Met, without_number, head_checks};
 ghost use Rattle.room.specs.Reading.{bid_read, bid_checks, filled_by};
 
 use crate::admission::Op;
@@ -19,7 +20,8 @@ use envelope::{HeadFields, LETTER_BYTES, SealedBid, head_of, parts_of};
 impl RoomState {
     // Lodges an envelope, and answers its sequence.
     pub(crate) fn lodge<E: Engine>(&mut self, engine: &E, envelope: &[u8]) -> Result<u32, RoomFault>
-        ensures { Met (E.kind engine.now) self.old (Lodging envelope.now) result self.new }
+        ensures { let lodging : Lodging = record { envelope = envelope.now } in
+            Met (E.kind engine.now) self.old (LodgingOf lodging) result self.new }
     {
         self.admits(Op::Lodge)?;
         let conditions = Conditions {
@@ -61,7 +63,8 @@ impl<E: Engine> Conditions<'_, E> {
     // The bid in an envelope, if the envelope has the variant's length and is for the lot.
     fn read<'a>(&self, envelope: &'a [u8]) -> Result<SealedBid<'a>, RoomFault>
         ensures { let v = E.kind self.now.engine.now in
-            bid_read result ≡ decision (head_checks v self.now.lot envelope.now) (bid_of envelope.now) }
+            bid_read result
+            ≡ decision (head_checks v self.now.lot envelope.now) (bid_of envelope.now) }
     {
         let variant = self.engine.variant();
         let bid = parts_of(envelope)
@@ -78,7 +81,8 @@ impl<E: Engine> Conditions<'_, E> {
         requires { length bid.tag.now ≡ tag_size (E.kind self.now.engine.now) }
         ensures answer { let v = E.kind self.now.engine.now in let b = bid_seen bid.entry in
             result ≡ decision (bid_checks v slot.old.key self.now.terms.now b) b.head.sequence }
-        ensures slot { slot.new ≡ by_answer result (filled_by (bid_seen bid.entry) slot.old) slot.old }
+        ensures slot { slot.new
+            ≡ by_answer result (filled_by (bid_seen bid.entry) slot.old) slot.old }
     {
         let SealedBid { head, letter, tag } = bid;
         self.check_tag(&slot.key, head, letter, tag)?;

@@ -1,8 +1,10 @@
 // Making of rooms, in a place that the caller holds.
 ghost use Rattle.std.specs.Prelude.{◌≡◌, ◌^◌, ◌<◌, ◌≤◌, ◌++◌, map, length, drop};
 ghost use Rattle.std.specs.List.{AllByRecursion};
+ghost use Rattle.engine.specs.declared.variants.Variant.{Variant as Kind};
+ghost use Rattle.room.specs.Sales.{Sale};
 ghost use Rattle.room.specs.Slots.{new_slot};
-ghost use Rattle.room.specs.Making.{Made, Fresh, lawful_register};
+ghost use Rattle.room.specs.Making.{Made, IsFreshPlace, is_lawful_register};
 
 use crate::faults::RoomFault;
 use crate::register::RegisterEntry;
@@ -14,7 +16,7 @@ use envelope::MOST_TERMS_BYTES;
 impl RoomState {
     /// A fresh place: by a rule of the project a closed room of lot 0 without bidders.
     pub fn fresh() -> RoomState
-        ensures { Fresh result }
+        ensures { IsFreshPlace result }
     {
         RoomState {
             phase: Phase::Closed,
@@ -33,7 +35,14 @@ impl RoomState {
         terms: &[u8],
         register: &[RegisterEntry],
     ) -> Result<(), RoomFault>
-        ensures { Made lot terms.now register.now self.old result self.new }
+        ensures { (v : Kind) →
+            let sale : Sale = record {
+              variant = v;
+              lot = lot;
+              terms = terms.now;
+              register = register.now;
+            } in
+            Made sale self.old result self.new }
     {
         if terms.len() > MOST_TERMS_BYTES {
             return Err(RoomFault::TermsLength);
@@ -67,7 +76,7 @@ fn enroll(slots: &mut [Slot], register: &[RegisterEntry])
 
 // Whether a register has 1 to 64 entries by strictly rising bidder.
 fn is_lawful(register: &[RegisterEntry]) -> bool
-    ensures { result ≡ lawful_register register.now }
+    ensures { result ≡ is_lawful_register register.now }
 {
     (1..=MOST_BIDDERS).contains(&register.len())
         && register.is_sorted_by(|a, b| a.bidder < b.bidder)

@@ -9,9 +9,9 @@ ghost use Rattle.room.specs.Calls.{amount_held};
 use crate::conditions::Conditions;
 use crate::faults::RoomFault;
 use crate::slots::Slot;
-use cipher::{CipherFault, check, tag_bytes};
+use cipher::{CipherFault, KEY_BYTES, check, tag_bytes};
 use engine::Engine;
-use envelope::{HeadFields, LETTER_BYTES, amount_in, head_of};
+use envelope::{HEAD_BYTES, HeadFields, LETTER_BYTES, amount_in, head_of};
 
 impl<E: Engine> Conditions<'_, E> {
     // The amount that a slot's bidder offers. It is 0 where no envelope stands, as for a bid withdrawn: the rules do not tell these apart. Any
@@ -46,8 +46,8 @@ impl<E: Engine> Conditions<'_, E> {
         tag: &[u8],
         work: &mut [u8; LETTER_BYTES],
     ) -> Result<u64, RoomFault>
-        requires key { length key.now ≡ 16 }
-        requires nonce { length nonce.now ≡ 12 }
+        requires key { length key.now ≡ KEY_BYTES }
+        requires nonce { length nonce.now ≡ HEAD_BYTES }
         requires tag { length tag.now ≡ tag_size (E.kind self.now.engine.now) }
         ensures { let v = E.kind self.now.engine.now in
             result

@@ -4,9 +4,9 @@ ghost use Rattle.std.specs.List.{AllByRecursion};
 ghost use Rattle.fault.specs.Checks.{decision};
 ghost use Rattle.list.specs.Insertion.{entries_of};
 ghost use Rattle.room.specs.Rising.{RiseByBidder};
-ghost use Rattle.room.specs.Rooms.{contents};
+ghost use Rattle.room.specs.Rooms.{contents_of};
 ghost use Rattle.room.specs.Calls.{sheet_of, page_of_room};
-ghost use Rattle.room.specs.Opening.{written_over};
+ghost use Rattle.room.specs.Opening.{place_with};
 ghost use Rattle.room.specs.Slots.{sheet_in};
 ghost use Rattle.room.specs.declared.faults.RoomFault.TheVariants.{Places};
 
@@ -47,12 +47,12 @@ impl RoomState {
     ) -> Result<usize, RoomFault>
         requires sheet { MOST_BIDDERS ≤ length sheet.old }
         requires page { MOST_PAGE_BYTES ≤ length page.old }
-        ensures answer { let room = contents (E.kind engine.now) self.now in
+        ensures answer { let room = contents_of (E.kind engine.now) self.now in
             result ≡ Ok (length (page_of_room room)) }
-        ensures sheet { let room = contents (E.kind engine.now) self.now in
-            sheet.new ≡ written_over (sheet_of room) sheet.old }
-        ensures page { let room = contents (E.kind engine.now) self.now in
-            page.new ≡ written_over (page_of_room room) page.old }
+        ensures sheet { let room = contents_of (E.kind engine.now) self.now in
+            sheet.new ≡ place_with (sheet_of room) sheet.old }
+        ensures page { let room = contents_of (E.kind engine.now) self.now in
+            page.new ≡ place_with (page_of_room room) page.old }
     {
         let conditions = Conditions {
             engine,
@@ -80,7 +80,7 @@ impl<E: Engine> Conditions<'_, E> {
             result ≡ Ok (length listed) }
         ensures sheet { let v = E.kind self.now.engine.now in
             let listed = sheet_in v self.now.lot self.now.terms.now slots.now in
-            sheet.new ≡ written_over listed sheet.old }
+            sheet.new ≡ place_with listed sheet.old }
         ensures fit { AllByRecursion (λ x. x.bidder < 2 ^ 32) slots.now }
     {
         let mut listed = Ordered::new(sheet);

@@ -1,6 +1,8 @@
 // A room: an engine, and a place that the caller holds.
 ghost use Rattle.std.specs.Prelude.{◌≡◌};
-ghost use Rattle.room.specs.Calls.{Lodging, Asking, Closing, Met, without_number};
+ghost use Rattle.engine.specs.declared.variants.Variant.{Variant as Kind};
+ghost use Rattle.room.specs.Sales.{Sale, Lodging};
+ghost use Rattle.room.specs.Calls.{LodgingOf, Asking, Closing, Met, without_number};
 ghost use Rattle.room.specs.Making.{Made};
 ghost use Rattle.room.specs.Opening.{Lent, Opened};
 
@@ -30,7 +32,14 @@ impl<'r, E: Engine + Drop> Room<'r, E> {
         terms: &[u8],
         register: &[RegisterEntry],
     ) -> Result<(), RoomFault>
-        ensures made { Made lot terms.now register.now self.old.inner.now result self.new.inner.now }
+        ensures made { (v : Kind) →
+            let sale : Sale = record {
+              variant = v;
+              lot = lot;
+              terms = terms.now;
+              register = register.now;
+            } in
+            Made sale self.old.inner.now result self.new.inner.now }
         ensures engine { self.new.engine ≡ self.old.engine }
         ensures place { self.new.inner.ghost_name ≡ self.old.inner.ghost_name }
     {
@@ -39,7 +48,8 @@ impl<'r, E: Engine + Drop> Room<'r, E> {
 
     /// Lodges an envelope, and answers its sequence.
     pub fn lodge(&mut self, envelope: &[u8]) -> Result<u32, RoomFault>
-        ensures meets { Met (E.kind self.old.engine) self.old.inner.now (Lodging envelope.now) result self.new.inner.now }
+        ensures meets { let lodging : Lodging = record { envelope = envelope.now } in
+            Met (E.kind self.old.engine) self.old.inner.now (LodgingOf lodging) result self.new.inner.now }
         ensures engine { self.new.engine ≡ self.old.engine }
         ensures place { self.new.inner.ghost_name ≡ self.old.inner.ghost_name }
     {
@@ -48,14 +58,16 @@ impl<'r, E: Engine + Drop> Room<'r, E> {
 
     /// The last accepted sequence of a bidder, 0 at first.
     pub fn ask(&self, bidder: u32) -> Result<u32, RoomFault>
-        ensures meets { Met (E.kind self.now.engine) self.now.inner.now (Asking bidder) result self.now.inner.now }
+        ensures meets { let room = self.now.inner.now in
+            Met (E.kind self.now.engine) room (Asking bidder) result room }
     {
         self.inner.ask(bidder)
     }
 
     /// Ends lodging.
     pub fn close(&mut self) -> Result<(), RoomFault>
-        ensures meets { Met (E.kind self.old.engine) self.old.inner.now Closing (without_number result) self.new.inner.now }
+        ensures meets { let answer = without_number result in
+            Met (E.kind self.old.engine) self.old.inner.now Closing answer self.new.inner.now }
         ensures engine { self.new.engine ≡ self.old.engine }
         ensures place { self.new.inner.ghost_name ≡ self.old.inner.ghost_name }
     {

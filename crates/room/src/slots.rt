@@ -45,7 +45,7 @@ impl Slot {
 
     // Takes an accepted letter and its tag. Bytes of the slot's tag that the tag has not are left as they are.
     pub(crate) fn fill(&mut self, sequence: u32, letter: &[u8; LETTER_BYTES], tag: &[u8])
-        requires { length tag.now ≤ 16 }
+        requires { length tag.now ≤ MOST_TAG_BYTES }
         ensures { let kept = tag.now ++ drop (length tag.now) self.old.tag in
             self.new ≡ record self.old { sequence = sequence; letter = letter.now; tag = kept } }
     {
@@ -58,7 +58,8 @@ impl Slot {
 // The place of a bidder's slot. The slots are looked at one by one: there are at most 64, and `position` says it plainly, whether they rise by
 // bidder or not.
 pub(crate) fn place_of(slots: &[Slot], bidder: u32) -> Result<usize, RoomFault>
-    ensures { MatchResult result (λ i. IsFirst slots.now bidder i) (λ f. HasNone slots.now bidder × (f ≡ UnknownBidder)) }
+    ensures { MatchResult result (λ i. IsFirst slots.now bidder i) (λ f. HasNone slots.now bidder
+        × (f ≡ UnknownBidder)) }
 {
     slots
         .iter()

@@ -1,5 +1,7 @@
 // What a room keeps, in a place that the caller holds.
 ghost use Rattle.std.specs.Prelude.{◌≤◌, take};
+ghost use Rattle.envelope.specs.Terms.{most_terms_bytes};
+ghost use Rattle.room.specs.Limits.{most_bidders};
 ghost use Rattle.room.specs.Rising.{RiseByBidder};
 
 use crate::slots::{Phase, Slot};
@@ -19,7 +21,7 @@ pub struct RoomState {
     pub(crate) terms_bytes: usize,
     pub(crate) slots: [Slot; MOST_BIDDERS],
     pub(crate) count: usize,
-    ghost short: { terms_bytes ≤ 64 },
-    ghost few: { count ≤ 64 },
+    ghost short: { terms_bytes ≤ most_terms_bytes },
+    ghost few: { count ≤ most_bidders },
     ghost rising: { RiseByBidder (take count slots) },
 }

@@ -6,7 +6,7 @@ ghost use Rattle.std.specs.Process.{exit_status};
 ghost use Rattle.sale.specs.Running.{Ends};
 
 use arguments::{NOT_DONE, begin};
-use file::{accepted_files_keep_limits, hold_sale, page_laws_stand};
+use file::{accepted_files_keep_limits, format_laws_stand, hold_sale, page_laws_stand};
 use room::promise_stands;
 use std::alloc::Global;
 use std::io;
@@ -39,6 +39,7 @@ fn run<R: Read + Drop, W: Write, M: Write>(
 fn main(rt: HostRuntime) -> ExitCode {
     promise_stands();
     accepted_files_keep_limits();
+    format_laws_stand();
     page_laws_stand();
     match begin(&rt, "sale", ABOUT) {
         Some(end) => end,

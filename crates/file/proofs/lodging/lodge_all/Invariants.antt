@@ -1,13 +1,13 @@
 use Rattle.std.proofs.Common.{◌≡◌, length, vec_items}
-use Rattle.file.specs.Contents.{said_in, envelopes_in}
-use Rattle.file.specs.Read.{left_of}
+use Rattle.file.specs.Contents.{items_in, envelopes_in}
+use Rattle.file.specs.Read.{items_left}
 use Rattle.file.specs.Stepwise.{GoesThrough}
 use Rattle.file.proofs.lodging.lodge_all.Given as goal
 
 abbrev pub invariant-loop-line : goal.invariant-loop-line
 invariant-loop-line g l =
-    GoesThrough (g.E.Engine.kind l.initial.room.engine) (vec_items l.initial.out) l.initial.room.inner.now (envelopes_in (said_in l.text))
-    (vec_items l.out) l.room.inner.now (envelopes_in (left_of l.reader))
+    GoesThrough (g.E.Engine.kind l.initial.room.engine) (vec_items l.initial.out) l.initial.room.inner.now (envelopes_in (items_in l.text))
+    (vec_items l.out) l.room.inner.now (envelopes_in (items_left l.reader))
     × (l.room.engine ≡ l.initial.room.engine) × (l.room.inner.ghost_name ≡ l.initial.room.inner.ghost_name)
 
 abbrev pub decreases-loop-line : goal.decreases-loop-line

@@ -1,13 +1,13 @@
 use Rattle.std.proofs.Common.{◌≡◌, length}
-use Rattle.file.specs.Contents.{gathered, enrolled_in, said_in}
+use Rattle.file.specs.Contents.{sale_of_items, bidders_enrolled, items_in}
 use Rattle.file.specs.Enrolling.{KeepsRest, sale_so_far}
-use Rattle.file.specs.Read.{left_of}
+use Rattle.file.specs.Read.{items_left}
 use Rattle.file.proofs.gathering.Gathering.take_all.Given as goal
 
 abbrev pub invariant-loop-line : goal.invariant-loop-line
 invariant-loop-line l = record {
-  sale : gathered (sale_so_far l.self) (left_of l.reader) ≡ gathered (sale_so_far l.initial.self) (said_in l.text);
-  register : enrolled_in (sale_so_far l.self).register (left_of l.reader) ≡ enrolled_in (sale_so_far l.initial.self).register (said_in l.text);
+  sale : sale_of_items (sale_so_far l.self) (items_left l.reader) ≡ sale_of_items (sale_so_far l.initial.self) (items_in l.text);
+  register : bidders_enrolled (sale_so_far l.self).register (items_left l.reader) ≡ bidders_enrolled (sale_so_far l.initial.self).register (items_in l.text);
   keeps : KeepsRest l.initial.self l.self;
   same_places : l.self.places.ghost_name ≡ l.initial.self.places.ghost_name;
 }

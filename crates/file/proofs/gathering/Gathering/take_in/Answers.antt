@@ -1,5 +1,5 @@
 use Rattle.std.proofs.Common.{ap, ◌∙◌}
-use Rattle.file.specs.Contents.{gathered, enrolled_in}
+use Rattle.file.specs.Contents.{sale_of_items, bidders_enrolled}
 use Rattle.file.specs.Enrolling.{sale_so_far}
 use Rattle.file.specs.Form.{item}
 use Rattle.file.specs.Said.{item_of}
@@ -7,29 +7,29 @@ use Rattle.file.proofs.Takes.{bidder_gathers, bidder_enrols}
 use Rattle.file.proofs.gathering.Gathering.take_in.Goals as goal
 
 pub returns-in-Lot-clause-gathers : goal.returns-in-Lot-clause-gathers
-unfolding gathered
-returns-in-Lot-clause-gathers c is = ap (λ l. gathered (sale_so_far c.args.self.now) (item (item_of l) is)) c.in-Lot.is
+unfolding sale_of_items
+returns-in-Lot-clause-gathers c is = ap (λ l. sale_of_items (sale_so_far c.args.self.now) (item (item_of l) is)) c.in-Lot.is
 
 pub returns-in-Lot-clause-enrols : goal.returns-in-Lot-clause-enrols
-unfolding enrolled_in
-returns-in-Lot-clause-enrols c is = ap (λ l. enrolled_in (sale_so_far c.args.self.now).register (item (item_of l) is)) c.in-Lot.is
+unfolding bidders_enrolled
+returns-in-Lot-clause-enrols c is = ap (λ l. bidders_enrolled (sale_so_far c.args.self.now).register (item (item_of l) is)) c.in-Lot.is
 
 pub returns-in-Bidder-clause-gathers : goal.returns-in-Bidder-clause-gathers
-unfolding gathered
+unfolding sale_of_items
 returns-in-Bidder-clause-gathers c is =
-    ap (λ l. gathered (sale_so_far c.args.self.now) (item (item_of l) is)) c.in-Bidder.is
+    ap (λ l. sale_of_items (sale_so_far c.args.self.now) (item (item_of l) is)) c.in-Bidder.is
     ∙ bidder_gathers _ _ (sale_so_far c.args.self.now) _ _ c.enroll.ensures.answer c.enroll.ensures.register is
 
 pub returns-in-Bidder-clause-enrols : goal.returns-in-Bidder-clause-enrols
-unfolding enrolled_in
+unfolding bidders_enrolled
 returns-in-Bidder-clause-enrols c is =
-    ap (λ l. enrolled_in (sale_so_far c.args.self.now).register (item (item_of l) is)) c.in-Bidder.is
+    ap (λ l. bidders_enrolled (sale_so_far c.args.self.now).register (item (item_of l) is)) c.in-Bidder.is
     ∙ bidder_enrols _ _ (sale_so_far c.args.self.now) _ _ c.enroll.ensures.answer c.enroll.ensures.register is
 
 pub returns-in-Envelope-clause-gathers : goal.returns-in-Envelope-clause-gathers
-unfolding gathered
-returns-in-Envelope-clause-gathers c is = ap (λ l. gathered (sale_so_far c.args.self.now) (item (item_of l) is)) c.in-Envelope.is
+unfolding sale_of_items
+returns-in-Envelope-clause-gathers c is = ap (λ l. sale_of_items (sale_so_far c.args.self.now) (item (item_of l) is)) c.in-Envelope.is
 
 pub returns-in-Envelope-clause-enrols : goal.returns-in-Envelope-clause-enrols
-unfolding enrolled_in
-returns-in-Envelope-clause-enrols c is = ap (λ l. enrolled_in (sale_so_far c.args.self.now).register (item (item_of l) is)) c.in-Envelope.is
+unfolding bidders_enrolled
+returns-in-Envelope-clause-enrols c is = ap (λ l. bidders_enrolled (sale_so_far c.args.self.now).register (item (item_of l) is)) c.in-Envelope.is
