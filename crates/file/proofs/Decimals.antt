@@ -37,7 +37,8 @@ without_digits b l (c ∷ cs) h =
 pub without_decimal : (b n : ℕ) → b < 48 → n < 2 ^ 32 → Without b (decimal n)
 without_decimal b n l s = without_digits b l (decimal n) (digits_decimal own n (omega arith))
 
-led_by : (ds : Bytes) → 0 < length ds → (get_or ds 0 0 ≡ 48 → length ds ≡ 1) → (t : Bool) → eqb (get_or ds 0 0) 48 ≡ t → (not t || eqb (length ds) 1) ≡ true
+led_by : (ds : Bytes) → 0 < length ds → (get_or ds 0 0 ≡ 48 → length ds ≡ 1) → (t : Bool) → eqb (get_or ds 0 0) 48 ≡ t
+    → (not t || eqb (length ds) 1) ≡ true
 led_by ds l h true e = eq-eqb (length ds) 1 (h (eqb-true (get_or ds 0 0) 48 e))
 led_by ds l h false e = refl
 

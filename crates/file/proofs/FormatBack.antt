@@ -51,7 +51,8 @@ lot_gathers : (lot : ℕ) (v : Variant) (terms : Bytes) (i : Item) (is : Items) 
 unfolding sale_of_items
 lot_gathers lot v terms i is s t e g = sym (ap (λ j. sale_of_items s (item j is)) e) ∙ g
 
-envelope_gathers : (n : ℕ) (ds : Bytes) (i : Item) (is : Items) (s t : Sale) → i ≡ envelope_item n ds → sale_of_items s (item i is) ≡ Ok t → sale_of_items s is ≡ Ok t
+envelope_gathers : (n : ℕ) (ds : Bytes) (i : Item) (is : Items) (s t : Sale) → i ≡ envelope_item n ds
+    → sale_of_items s (item i is) ≡ Ok t → sale_of_items s is ≡ Ok t
 unfolding sale_of_items
 envelope_gathers n ds i is s t e g = sym (ap (λ j. sale_of_items s (item j is)) e) ∙ g
 
@@ -60,7 +61,8 @@ and_then_back : (n : ℕ) (r : Result (List RegisterEntry) ListFault) (go_on : L
 and_then_back n (Ok ys) go_on t e = (ys, refl, e)
 and_then_back n (Err f) go_on t e = absurd (let z : ◌≡◌ {A = ℕ} 0 1 = cc in omega arith)
 
-bidder_gathers : (n : ℕ) (b : RegisterEntry) (i : Item) (is : Items) (s t : Sale) → LawfulBidder b → i ≡ bidder_item n b.bidder (hexadecimal b.key)
+bidder_gathers : (n : ℕ) (b : RegisterEntry) (i : Item) (is : Items) (s t : Sale) → LawfulBidder b
+    → i ≡ bidder_item n b.bidder (hexadecimal b.key)
     → sale_of_items s (item i is) ≡ Ok t
     → (has_equal order b s.register ≡ false) × (length s.register < 64) × (sale_of_items (with_register (list_with order b s.register) s) is ≡ Ok t)
 unfolding sale_of_items
@@ -183,7 +185,8 @@ read_bidders finished n t s e = absurd (refused_gathers s t (Form n) e)
 read_bidders torn n t s e = absurd (refused_gathers s t (Form n) e)
 read_bidders (line l ls) n t s e = bidders_by l ls n s t (bytes_eq l []) refl (read_bidders ls (n + 1) t) e
 
-read_first : (ls : Lines) (n : ℕ) (s t : Sale) → sale_of_items s (items FirstBidder n ls) ≡ Ok t → (r : BiddersRead s.register ls) × (1 ≤ length r.bidders)
+read_first : (ls : Lines) (n : ℕ) (s t : Sale) → sale_of_items s (items FirstBidder n ls) ≡ Ok t
+    → (r : BiddersRead s.register ls) × (1 ≤ length r.bidders)
 unfolding items Rest
 read_first finished n s t e = absurd (refused_gathers s t (Form n) e)
 read_first torn n s t e = absurd (refused_gathers s t (Form n) e)
@@ -210,7 +213,8 @@ read_all ls t clean e =
     let f = read_first d.rest 5 s t d₁.1 in
     let r = f.0 in
     let p : Particulars = record { lot = lot.lot; variant = lot.variant; terms = lot.terms; bidders = r.bidders; envelopes = r.envelopes } in
-    let below : c.rest ≡ lines_as (codes "bidder,key" ∷ lines_below r.bidders r.envelopes) = d.are ∙ ap (λ z. line z d.rest) d₁.0 ∙ ap (line (codes "bidder,key")) r.are in
+    let below : c.rest ≡ lines_as (codes "bidder,key" ∷ lines_below r.bidders r.envelopes) = d.are ∙ ap (λ z. line z d.rest) d₁.0
+    ∙ ap (line (codes "bidder,key")) r.are in
     let lot_is = lot_line lot.lot lot.variant lot.terms in
     let values : a.rest ≡ lines_as (lot_is ∷ [] ∷ codes "bidder,key" ∷ lines_below r.bidders r.envelopes) =
     b.are ∙ ap (λ z. line z b.rest) lot.is ∙ ap (line lot_is) (c.are ∙ ap (λ z. line z c.rest) c₁.0 ∙ ap (line []) below) in

@@ -35,10 +35,12 @@ abbrev pub items_of : Particulars → Items
 items_of p = item (lot_item p.lot p.variant p.terms) (bidder_items 5 p.bidders p.envelopes)
 
 -- a line that says something
-said_line : (r : Result Item FileFault) (i : Item) (next : Section) (go_on : Section → Items) → r ≡ Ok i → after_verdict (line_must_say r next) go_on ≡ item i (go_on next)
+said_line : (r : Result Item FileFault) (i : Item) (next : Section) (go_on : Section → Items) → r ≡ Ok i
+    → after_verdict (line_must_say r next) go_on ≡ item i (go_on next)
 said_line r i next go_on e = rw e refl
 
-envelopes_said : (n : ℕ) (es : List Bytes) → AllByRecursion LawfulEnvelope es → items Envelopes n (lines_as (map hexadecimal es)) ≡ envelope_items n es
+envelopes_said : (n : ℕ) (es : List Bytes) → AllByRecursion LawfulEnvelope es
+    → items Envelopes n (lines_as (map hexadecimal es)) ≡ envelope_items n es
 unfolding items
 envelopes_said n [] h = refl
 envelopes_said n (e ∷ es) h =
@@ -60,11 +62,13 @@ unfolding items
 bidders_said n [] es h k = envelopes_said (n + 1 + 1) es k
 bidders_said n (b ∷ bs) es h k =
     let go_on : Section → Items = λ next. items next (n + 1) (lines_as (lines_below bs es)) in
-    ap (λ v. after_verdict v go_on) (cond_other (bytes_eq (bidder_line b) []) (passed EnvelopeNames) (line_must_say (bidder_line_item n (bidder_line b)) Bidders) (bidder_no_end b))
+    ap (λ v. after_verdict v go_on)
+    (cond_other (bytes_eq (bidder_line b) []) (passed EnvelopeNames) (line_must_say (bidder_line_item n (bidder_line b)) Bidders) (bidder_no_end b))
     ∙ said_line _ (bidder_item n b.bidder (hexadecimal b.key)) Bidders go_on (bidder_read n b h.0)
     ∙ ap (item (bidder_item n b.bidder (hexadecimal b.key))) (bidders_said (n + 1) bs es h.1 k)
 
-first_said : (n : ℕ) (bs : List RegisterEntry) (es : List Bytes) → 1 ≤ length bs → AllByRecursion LawfulBidder bs → AllByRecursion LawfulEnvelope es
+first_said : (n : ℕ) (bs : List RegisterEntry) (es : List Bytes) → 1 ≤ length bs → AllByRecursion LawfulBidder bs
+    → AllByRecursion LawfulEnvelope es
     → items FirstBidder n (lines_as (lines_below bs es)) ≡ bidder_items n bs es
 unfolding items
 first_said n [] es l h k = absurd (omega arith)
@@ -110,7 +114,8 @@ envelopes_gathered s n (e ∷ es) = envelopes_gathered s (n + 1) es
 pub bidder_back : (b : RegisterEntry) → LawfulBidder b → record { bidder = b.bidder; key = written_bytes (hexadecimal b.key) } ≡ b
 bidder_back b h = ap (λ k. record { bidder = b.bidder; key = k }) (written_bytes-hexadecimal b.key h.bytes)
 
-pub bidders_gathered : (s : Sale) (n : ℕ) (bs : List RegisterEntry) (es : List Bytes) → AllByRecursion LawfulBidder bs → Enrollable s.register bs
+pub bidders_gathered : (s : Sale) (n : ℕ) (bs : List RegisterEntry) (es : List Bytes) → AllByRecursion LawfulBidder bs
+    → Enrollable s.register bs
     → sale_of_items s (bidder_items n bs es) ≡ Ok (with_register (register_with s.register bs) s)
 unfolding sale_of_items
 bidders_gathered s n [] es h k = envelopes_gathered s (n + 1 + 1) es

@@ -28,12 +28,14 @@ contents_by : (es : List Sent) (r : Result Sale FileFault) (c : FileContents) �
 contents_by es (Ok s) c e = let q : record { sale = s; envelopes = es } ≡ c = cc in ap (λ x. Ok x.sale) q
 contents_by es (Err f) c e = absurd (let z : ◌≡◌ {A = ℕ} 0 1 = cc in omega arith)
 
-short_by : (t : Bool) (is : Items) (s : Sale) → sale_of_items unknown_sale (cond t (broken TooLong) is) ≡ Ok s → (t ≡ false) × (sale_of_items unknown_sale is ≡ Ok s)
+short_by : (t : Bool) (is : Items) (s : Sale) → sale_of_items unknown_sale (cond t (broken TooLong) is) ≡ Ok s
+    → (t ≡ false) × (sale_of_items unknown_sale is ≡ Ok s)
 unfolding sale_of_items
 short_by true is s e = absurd (let z : ◌≡◌ {A = ℕ} 0 1 = cc in omega arith)
 short_by false is s e = (refl, e)
 
-accepted_by : (file : Bytes) (c : FileContents) → contents_in file ≡ Ok c → (length file ≤ most_bytes) × (sale_of_items unknown_sale (items LotNames 1 (lines file)) ≡ Ok c.sale)
+accepted_by : (file : Bytes) (c : FileContents) → contents_in file ≡ Ok c
+    → (length file ≤ most_bytes) × (sale_of_items unknown_sale (items LotNames 1 (lines file)) ≡ Ok c.sale)
 accepted_by file c e =
     let k = short_by (ltb most_bytes (length file)) (items LotNames 1 (lines file)) c.sale (contents_by (envelopes_in (items_in file)) (sale_in file) c e) in
     (ltb-false most_bytes (length file) k.0, k.1)
@@ -118,13 +120,16 @@ no_bidders n (e ∷ es) = no_bidders (n + 1) es
 
 bidders_are : (n : ℕ) (bs : List RegisterEntry) (es : List Bytes) → AllByRecursion LawfulBidder bs → bidders_out (bidder_items n bs es) ≡ bs
 bidders_are n [] es h = no_bidders (n + 1 + 1) es
-bidders_are n (b ∷ bs) es h = ap (λ z. z ∷ bidders_out (bidder_items (n + 1) bs es)) (bidder_back b h.0) ∙ ap (λ z. b ∷ z) (bidders_are (n + 1) bs es h.1)
+bidders_are n (b ∷ bs) es h =
+    ap (λ z. z ∷ bidders_out (bidder_items (n + 1) bs es)) (bidder_back b h.0)
+    ∙ ap (λ z. b ∷ z) (bidders_are (n + 1) bs es h.1)
 
 envelopes_are : (n : ℕ) (es : List Bytes) → AllByRecursion LawfulEnvelope es → envelopes_out (envelope_items n es) ≡ es
 envelopes_are n [] h = refl
 envelopes_are n (e ∷ es) h = rw (written_bytes-hexadecimal e h.0.bytes, envelopes_are (n + 1) es h.1) refl
 
-all_envelopes_are : (n : ℕ) (bs : List RegisterEntry) (es : List Bytes) → AllByRecursion LawfulEnvelope es → envelopes_out (bidder_items n bs es) ≡ es
+all_envelopes_are : (n : ℕ) (bs : List RegisterEntry) (es : List Bytes) → AllByRecursion LawfulEnvelope es
+    → envelopes_out (bidder_items n bs es) ≡ es
 all_envelopes_are n [] es h = envelopes_are (n + 1 + 1) es h
 all_envelopes_are n (b ∷ bs) es h = all_envelopes_are (n + 1) bs es h
 

@@ -1,5 +1,5 @@
 -- A file that is refused leaves the format in the line that is told.
-use Rattle.std.proofs.Common.{◌≡◌, ℕ, ◌<◌, ◌≤◌, cond, List, [], ◌∷◌, ◌++◌, length, Ok, Err, Result, sym, refl, ap, ◌∙◌, append_assoc, subst, arith}
+use Rattle.std.proofs.Common.{◌≡◌, ℕ, ◌<◌, ◌≤◌, cond, List, [], ◌∷◌, ◌++◌, length, Ok, Err, Result, sym, refl, ap, ◌∙◌, inl, inr, ◌⊎◌, append_assoc, subst, arith}
 use Rattle.std.specs.List.{AllByRecursion}
 use Rattle.std.proofs.lemmas.Bool.{le-ltb, lt-ltb}
 use Rattle.room.specs.Sales.{Bytes, Sale}
@@ -7,16 +7,16 @@ use Rattle.file.specs.Contents.{Sent, with_envelopes, sale_of_items, envelopes_i
 use Rattle.file.specs.Faults.{line_of}
 use Rattle.file.specs.Form.{broken, items}
 use Rattle.file.specs.Format.{Particulars, LawfulParticulars, lines_of, text_of}
-use Rattle.file.specs.FormatLaws.{BeginFile, LeavesFormat}
+use Rattle.file.specs.FormatLaws.{BeginFile, IsRefusedThough, LeavesFormat}
 use Rattle.file.specs.Input.{most_bytes}
 use Rattle.file.specs.Lines.{Lines, line, lines}
 use Rattle.file.specs.declared.faults.FileFault.{FileFault}
-use Rattle.file.specs.declared.faults.FileFault.TheVariants.{TooLong}
+use Rattle.file.specs.declared.faults.FileFault.TheVariants.{TooLong, Form}
 use Rattle.file.specs.declared.line.Section.TheVariants.{LotNames}
 use Rattle.file.proofs.FormatBack.{read_all}
 use Rattle.file.proofs.FormatItems.{lines_said, clean_lines}
 use Rattle.file.proofs.FormatLaws.{given, given_gathered}
-use Rattle.file.proofs.Leaving.{onto, walk}
+use Rattle.file.proofs.Leaving.{Why, onto, walk}
 use Rattle.file.proofs.Texts.{Without, lines_as, lines-ended, NoTens, no_tens, first_line, same_lines, no_tens_as}
 
 -- the text behind lines
@@ -37,7 +37,8 @@ clean_onto : (above : List Bytes) (ls : Lines) → NoTens (onto above ls) → Al
 clean_onto [] ls h = tt
 clean_onto (l ∷ above) ls h = (h.0, clean_onto above ls h.1)
 
-clean_append : (xs ys : List Bytes) → AllByRecursion (Without 10) xs → AllByRecursion (Without 10) ys → AllByRecursion (Without 10) (xs ++ ys)
+clean_append : (xs ys : List Bytes) → AllByRecursion (Without 10) xs → AllByRecursion (Without 10) ys
+    → AllByRecursion (Without 10) (xs ++ ys)
 clean_append [] ys h k = k
 clean_append (x ∷ xs) ys h k = (h.0, clean_append xs ys h.1 k)
 
@@ -53,12 +54,19 @@ begin_by above more t h k e =
     (r.particulars, r.lawful, (more, sym (same_lines (above ++ more) (lines_of r.particulars) r.are)))
 
 -- and those of a file that is written give a sale
-written_gathers : (p : Particulars) → LawfulParticulars p → (f : FileFault) → sale_of_items unknown_sale (items LotNames 1 (lines_as (lines_of p))) ≡ Err f → ⊥
+written_gathers : (p : Particulars) → LawfulParticulars p → (f : FileFault)
+    → sale_of_items unknown_sale (items LotNames 1 (lines_as (lines_of p))) ≡ Err f → ⊥
 written_gathers p h f e =
-    let g : sale_of_items unknown_sale (items LotNames 1 (lines_as (lines_of p))) ≡ Ok (given p h).sale = ap (sale_of_items unknown_sale) (lines_said p h) ∙ given_gathered p h in
+    let g : sale_of_items unknown_sale (items LotNames 1 (lines_as (lines_of p))) ≡ Ok (given p h).sale =
+    ap (sale_of_items unknown_sale) (lines_said p h) ∙ given_gathered p h in
     let z : ◌≡◌ {A = ℕ} 0 1 = cc in omega arith
 
-leaves_by : (file : Bytes) (f : FileFault) → sale_of_items unknown_sale (items LotNames 1 (lines file)) ≡ Err f → LeavesFormat file (line_of f)
+why_by : (f : FileFault) (rest : Bytes) (left : Lines) → lines rest ≡ left → Why f left
+    → (f ≡ Form (line_of f)) ⊎ ((l : Bytes) × (behind : Bytes) × (rest ≡ l ++ (10 ∷ behind)) × IsRefusedThough f l)
+why_by f rest left e (inl h) = inl h
+why_by f rest left e (inr (l, ls, q, k)) = let d = first_line rest l ls (e ∙ q) in inr (l, d.behind, d.are, k)
+
+leaves_by : (file : Bytes) (f : FileFault) → sale_of_items unknown_sale (items LotNames 1 (lines file)) ≡ Err f → LeavesFormat file f
 leaves_by file f e =
     let w = walk (lines file) LotNames 1 unknown_sale f (λ u. refl) e in
     let b = behind_lines file w.above w.rest w.are in
@@ -68,6 +76,7 @@ leaves_by file f e =
       are = b.are;
       number = let c = w.count in omega arith;
       begin = begin_by w.above w.more w.sale (clean_onto w.above w.rest (subst NoTens w.are (no_tens file))) w.clean w.completes;
+      why = why_by f b.rest w.rest b.left w.why;
       breaks = λ l behind q begun.
           let same : lines_of begun.0 ≡ w.above ++ (l ∷ begun.2.0) = begun.2.1 ∙ append_assoc w.above (l ∷ []) begun.2.0 in
           let clean = clean_at w.above l begun.2.0 (subst (AllByRecursion (Without 10)) same (clean_lines begun.0 begun.1)) in
@@ -80,9 +89,10 @@ refused_by : (es : List Sent) (r : Result Sale FileFault) (f : FileFault) → wi
 refused_by es (Ok s) f e = absurd (let z : ◌≡◌ {A = ℕ} 0 1 = cc in omega arith)
 refused_by es (Err g) f e = let q : g ≡ f = cc in ap Err q
 
-pub leaves : (file : Bytes) (f : FileFault) → length file ≤ most_bytes → contents_in file ≡ Err f → LeavesFormat file (line_of f)
+pub leaves : (file : Bytes) (f : FileFault) → length file ≤ most_bytes → contents_in file ≡ Err f → LeavesFormat file f
 leaves file f l e =
-    let said : items_in file ≡ items LotNames 1 (lines file) = ap (λ t. cond t (broken TooLong) (items LotNames 1 (lines file))) (le-ltb most_bytes (length file) l) in
+    let said : items_in file ≡ items LotNames 1 (lines file) =
+    ap (λ t. cond t (broken TooLong) (items LotNames 1 (lines file))) (le-ltb most_bytes (length file) l) in
     leaves_by file f (sym (ap (sale_of_items unknown_sale) said) ∙ refused_by (envelopes_in (items_in file)) (sale_in file) f e)
 
 pub too_long : (file : Bytes) → most_bytes < length file → contents_in file ≡ Err TooLong

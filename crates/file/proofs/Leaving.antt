@@ -1,8 +1,8 @@
 -- The line at which a file leaves the format.
-use Rattle.std.proofs.Common.{◌≡◌, ℕ, ◌+◌, ◌≤◌, Bool, true, false, ◌&&◌, leb, List, [], ◌∷◌, ◌++◌, length, Some, None, Ok, Err, codes, Option, Result, sym, refl, ap, ◌∙◌, subst, arith, rules}
+use Rattle.std.proofs.Common.{◌≡◌, ℕ, ◌+◌, ◌<◌, ◌≤◌, Bool, true, false, ◌&&◌, leb, List, [], ◌∷◌, ◌++◌, length, Some, None, Ok, Err, codes, Option, Result, sym, refl, ap, ◌∙◌, inl, inr, ◌⊎◌, subst, arith, rules}
 use Rattle.std.specs.Str.{bytes_eq}
 use Rattle.std.specs.List.{AllByRecursion}
-use Rattle.std.proofs.lemmas.Bool.{cond_both}
+use Rattle.std.proofs.lemmas.Bool.{cond_both, leb-false}
 use Rattle.engine.specs.declared.variants.Variant.{Variant}
 use Rattle.list.specs.Insertion.{has_equal, list_with, count_ahead}
 use Rattle.list.specs.declared.faults.ListFault.{ListFault}
@@ -12,6 +12,8 @@ use Rattle.file.specs.Contents.{with_lot, with_register, and_then, enrolment, sa
 use Rattle.file.specs.Faults.{line_of}
 use Rattle.file.specs.Fields.{place_of, holds_comma, field, behind}
 use Rattle.file.specs.Form.{Items, lot_item, bidder_item, envelope_item, variant_of, lot_values, is_key, bidder_values, bidder_line_item, is_envelope, Verdict, passed, refused, said, line_must_be, line_must_say, verdict_on, after_verdict, at_the_end, items}
+use Rattle.file.specs.Format.{LawfulBidder, bidder_line}
+use Rattle.file.specs.FormatLaws.{IsRefusedThough}
 use Rattle.file.specs.Hexadecimal.{all_hex_digits, written_bytes}
 use Rattle.file.specs.Lines.{Lines, finished, torn, line}
 use Rattle.file.specs.Numbers.{all_digits, value_after, value_of, number_of}
@@ -19,7 +21,7 @@ use Rattle.file.specs.declared.faults.FileFault.{FileFault}
 use Rattle.file.specs.declared.faults.FileFault.TheVariants.{Form, TermsLength, List as ByList}
 use Rattle.file.specs.declared.line.Section.{Section}
 use Rattle.file.specs.declared.line.Section.TheVariants.{LotNames, LotValues, LotEnd, BidderNames, FirstBidder, Bidders, EnvelopeNames, Envelopes}
-use Rattle.file.proofs.LineTexts.{without_above}
+use Rattle.file.proofs.LineTexts.{without_above, lot_is, bidder_by, bidder_written}
 use Rattle.file.proofs.Texts.{Without, lines_as}
 
 -- the sections before the first bidder
@@ -33,42 +35,67 @@ Early Bidders = ⊥
 Early EnvelopeNames = ⊥
 Early Envelopes = ⊥
 
--- what comes of a line: a refusal is at that line, and no line leads back before the first bidder
-abbrev Onward : Section → ℕ → Verdict → Type 0
-Onward sec n (refused f) = line_of f ≡ n
-Onward sec n (passed next) = Early next → Early sec
-Onward sec n (said (lot_item lot v terms) next) = Early next → Early sec
-Onward sec n (said (bidder_item m b key) next) = (m ≡ n) × (Early next → ⊥)
-Onward sec n (said (envelope_item m ds) next) = Early next → ⊥
+-- what is told of a line that is refused
+abbrev Told : FileFault → Bytes → Type 0
+Told f l = (f ≡ Form (line_of f)) ⊎ IsRefusedThough f l
 
-onward_text : (sec : Section) (text : Bytes) (next : Section) (n : ℕ) (l : Bytes) → (Early next → Early sec) → Onward sec n (line_must_be text next n l)
-onward_text sec text next n l h = cond_both (bytes_eq l text) (passed next) (refused (Form n)) (Onward sec n) (λ e. h) (λ e. refl)
+-- a bidder's line
+abbrev IsBidderLine : Bytes → Type 0
+IsBidderLine l = (e : RegisterEntry) × LawfulBidder e × (l ≡ bidder_line e)
 
-onward_lot : (n : ℕ) (t : Bool) (o : Option ℕ) (v : Option Variant) (terms : Bytes) → Onward LotValues n (line_must_say (lot_values n t o v terms) LotEnd)
-onward_lot n true (Some lot) (Some v) terms =
-    cond_both (leb (length terms) 64) (Ok (lot_item lot v terms)) (Err (TermsLength n)) (λ r. Onward LotValues n (line_must_say r LotEnd)) (λ e. λ u. tt) (λ e. refl)
-onward_lot n true (Some lot) None terms = refl
-onward_lot n true None v terms = refl
-onward_lot n false o v terms = refl
+-- what comes of line n: a refusal is at that line, and no line leads back before the first bidder
+abbrev Onward : Section → ℕ → Bytes → Verdict → Type 0
+Onward sec n l (refused f) = (line_of f ≡ n) × Told f l
+Onward sec n l (passed next) = Early next → Early sec
+Onward sec n l (said (lot_item lot v terms) next) = Early next → Early sec
+Onward sec n l (said (bidder_item m b key) next) = (m ≡ n) × (Early next → ⊥) × IsBidderLine l
+Onward sec n l (said (envelope_item m ds) next) = Early next → ⊥
 
-onward_bidder : (sec : Section) (n : ℕ) (t : Bool) (o : Option ℕ) (key : Bytes) → Onward sec n (line_must_say (bidder_values n t o key) Bidders)
-onward_bidder sec n true (Some b) key =
-    cond_both (is_key key) (Ok (bidder_item n b key)) (Err (Form n)) (λ r. Onward sec n (line_must_say r Bidders)) (λ e. (refl, λ u. u)) (λ e. refl)
-onward_bidder sec n true None key = refl
-onward_bidder sec n false o key = refl
+onward_text : (sec : Section) (text : Bytes) (next : Section) (n : ℕ) (l : Bytes) → (Early next → Early sec)
+    → Onward sec n l (line_must_be text next n l)
+onward_text sec text next n l h = cond_both (bytes_eq l text) (passed next) (refused (Form n)) (Onward sec n l) (λ e. h) (λ e. (refl, inl refl))
 
-onward : (sec : Section) (n : ℕ) (l : Bytes) → Onward sec n (verdict_on sec n l)
+onward_lot : (n : ℕ) (l : Bytes) (t : Bool) (o : Option ℕ) (v : Option Variant) (terms : Bytes)
+    → ((lot : ℕ) (w : Variant) → t ≡ true → o ≡ Some lot → v ≡ Some w → 64 < length terms → IsRefusedThough (TermsLength n) l)
+    → Onward LotValues n l (line_must_say (lot_values n t o v terms) LotEnd)
+onward_lot n l true (Some lot) (Some v) terms long =
+    cond_both (leb (length terms) 64) (Ok (lot_item lot v terms)) (Err (TermsLength n)) (λ r. Onward LotValues n l (line_must_say r LotEnd)) (λ e. λ u. tt)
+    (λ e. (refl, inr (long lot v refl refl refl (leb-false (length terms) 64 e))))
+onward_lot n l true (Some lot) None terms long = (refl, inl refl)
+onward_lot n l true None v terms long = (refl, inl refl)
+onward_lot n l false o v terms long = (refl, inl refl)
+
+onward_bidder_by : (sec : Section) (n : ℕ) (l : Bytes) (t : Bool) (o : Option ℕ) (key : Bytes)
+    → ((b : ℕ) → t ≡ true → o ≡ Some b → is_key key ≡ true → IsBidderLine l)
+    → Onward sec n l (line_must_say (bidder_values n t o key) Bidders)
+onward_bidder_by sec n l true (Some b) key is =
+    cond_both (is_key key) (Ok (bidder_item n b key)) (Err (Form n)) (λ r. Onward sec n l (line_must_say r Bidders))
+    (λ e. (refl, λ u. u, is b refl refl e)) (λ e. (refl, inl refl))
+onward_bidder_by sec n l true None key is = (refl, inl refl)
+onward_bidder_by sec n l false o key is = (refl, inl refl)
+
+onward_bidder : (sec : Section) (n : ℕ) (l : Bytes) → Onward sec n l (line_must_say (bidder_line_item n l) Bidders)
+onward_bidder sec n l =
+    onward_bidder_by sec n l (holds_comma l) (number_of (field l)) (behind l)
+    (λ b t o k.
+    let r = bidder_written n l (bidder_item n b (behind l)) (bidder_by n b (behind l) (holds_comma l) (number_of (field l)) (behind l) t o refl k) in
+    (r.entry, r.lawful, r.is))
+
+onward : (sec : Section) (n : ℕ) (l : Bytes) → Onward sec n l (verdict_on sec n l)
 onward LotNames n l = onward_text LotNames (codes "lot,variant,terms") LotValues n l (λ u. tt)
-onward LotValues n l = onward_lot n (holds_comma l && holds_comma (behind l)) (number_of (field l)) (variant_of (field (behind l))) (behind (behind l))
+onward LotValues n l =
+    onward_lot n l (holds_comma l && holds_comma (behind l)) (number_of (field l)) (variant_of (field (behind l))) (behind (behind l))
+    (λ lot v t o w long. let is = lot_is l lot v t o w in (lot, v, behind (behind l), is.0, is.1, long))
 onward LotEnd n l = onward_text LotEnd [] BidderNames n l (λ u. tt)
 onward BidderNames n l = onward_text BidderNames (codes "bidder,key") FirstBidder n l (λ u. tt)
-onward FirstBidder n l = onward_bidder FirstBidder n (holds_comma l) (number_of (field l)) (behind l)
+onward FirstBidder n l = onward_bidder FirstBidder n l
 onward Bidders n l =
-    cond_both (bytes_eq l []) (passed EnvelopeNames) (line_must_say (bidder_line_item n l) Bidders) (Onward Bidders n) (λ e. λ u. u)
-    (λ e. onward_bidder Bidders n (holds_comma l) (number_of (field l)) (behind l))
+    cond_both (bytes_eq l []) (passed EnvelopeNames) (line_must_say (bidder_line_item n l) Bidders) (Onward Bidders n l) (λ e. λ u. u)
+    (λ e. onward_bidder Bidders n l)
 onward EnvelopeNames n l = onward_text EnvelopeNames (codes "envelope") Envelopes n l (λ u. u)
 onward Envelopes n l =
-    cond_both (is_envelope l) (Ok (envelope_item n l)) (Err (Form n)) (λ r. Onward Envelopes n (line_must_say r Envelopes)) (λ e. λ u. u) (λ e. refl)
+    cond_both (is_envelope l) (Ok (envelope_item n l)) (Err (Form n)) (λ r. Onward Envelopes n l (line_must_say r Envelopes)) (λ e. λ u. u)
+    (λ e. (refl, inl refl))
 
 -- lines that end a file from a section on
 abbrev one_bidder : List Bytes
@@ -124,13 +151,18 @@ closes_early Bidders n lot v terms u = absurd u
 closes_early EnvelopeNames n lot v terms u = absurd u
 closes_early Envelopes n lot v terms u = absurd u
 
+closes_with : (sec : Section) (n : ℕ) (s : Sale) → Early sec → s.register ≡ [] → Closes sec n s
+closes_with sec n s u e =
+    subst (λ r. Closes sec n (record { variant = s.variant; lot = s.lot; terms = s.terms; register = r })) (sym e)
+    (closes_early sec n s.lot s.variant s.terms u)
+
 closes : (sec : Section) (n : ℕ) (s : Sale) → (Early sec → s.register ≡ []) → Closes sec n s
 unfolding sale_of_items items
-closes LotNames n s h = subst (λ r. Closes LotNames n (record { variant = s.variant; lot = s.lot; terms = s.terms; register = r })) (sym (h tt)) (closes_early LotNames n s.lot s.variant s.terms tt)
-closes LotValues n s h = subst (λ r. Closes LotValues n (record { variant = s.variant; lot = s.lot; terms = s.terms; register = r })) (sym (h tt)) (closes_early LotValues n s.lot s.variant s.terms tt)
-closes LotEnd n s h = subst (λ r. Closes LotEnd n (record { variant = s.variant; lot = s.lot; terms = s.terms; register = r })) (sym (h tt)) (closes_early LotEnd n s.lot s.variant s.terms tt)
-closes BidderNames n s h = subst (λ r. Closes BidderNames n (record { variant = s.variant; lot = s.lot; terms = s.terms; register = r })) (sym (h tt)) (closes_early BidderNames n s.lot s.variant s.terms tt)
-closes FirstBidder n s h = subst (λ r. Closes FirstBidder n (record { variant = s.variant; lot = s.lot; terms = s.terms; register = r })) (sym (h tt)) (closes_early FirstBidder n s.lot s.variant s.terms tt)
+closes LotNames n s h = closes_with LotNames n s tt (h tt)
+closes LotValues n s h = closes_with LotValues n s tt (h tt)
+closes LotEnd n s h = closes_with LotEnd n s tt (h tt)
+closes BidderNames n s h = closes_with BidderNames n s tt (h tt)
+closes FirstBidder n s h = closes_with FirstBidder n s tt (h tt)
 closes Bidders n s h = record { more = closing Bidders; clean = clean_closing Bidders; sale = s; gathers = refl }
 closes EnvelopeNames n s h = record { more = closing EnvelopeNames; clean = clean_closing EnvelopeNames; sale = s; gathers = refl }
 closes Envelopes n s h = record { more = []; clean = tt; sale = s; gathers = refl }
@@ -139,6 +171,17 @@ closes Envelopes n s h = record { more = []; clean = tt; sale = s; gathers = ref
 abbrev pub onto : List Bytes → Lines → Lines
 onto [] rest = rest
 onto (l ∷ ls) rest = line l (onto ls rest)
+
+-- and why: the form is broken, or a line that has its form is refused
+abbrev pub Why : FileFault → Lines → Type 0
+Why f rest = (f ≡ Form (line_of f)) ⊎ ((l : Bytes) × (ls : Lines) × (rest ≡ line l ls) × IsRefusedThough f l)
+
+why_here : (f : FileFault) (l : Bytes) (ls : Lines) → Told f l → Why f (line l ls)
+why_here f l ls (inl e) = inl e
+why_here f l ls (inr k) = inr (l, ls, refl, k)
+
+why_form : (n : ℕ) (f : FileFault) (rest : Lines) → Form n ≡ f → Why f rest
+why_form n f rest e = inl (subst (λ x. x ≡ Form (line_of x)) e refl)
 
 -- where reading stops: the lines above can be gone on with to the end of a file, and whatever follows the line that is refused, it is refused
 pub record LeftAt (sec : Section) (n : ℕ) (s : Sale) (ls : Lines) (f : FileFault) : Type 0 where
@@ -149,14 +192,28 @@ pub record LeftAt (sec : Section) (n : ℕ) (s : Sale) (ls : Lines) (f : FileFau
   pub more : List Bytes
   pub clean : AllByRecursion (Without 10) more
   pub sale : Sale
+  pub why : Why f rest
   pub completes : sale_of_items s (items sec n (lines_as (above ++ more))) ≡ Ok sale
-  pub stuck : (l : Bytes) (ls' : Lines) → rest ≡ line l ls' → (m : List Bytes) → sale_of_items s (items sec n (lines_as (above ++ (l ∷ m)))) ≡ Err f
+  pub stuck : (l : Bytes) (ls' : Lines) → rest ≡ line l ls' → (m : List Bytes)
+      → sale_of_items s (items sec n (lines_as (above ++ (l ∷ m)))) ≡ Err f
 
-stops_here : (sec : Section) (n : ℕ) (s : Sale) (ls : Lines) (f : FileFault) → (Early sec → s.register ≡ []) → line_of f ≡ n
-    → ((l : Bytes) (ls' : Lines) → ls ≡ line l ls' → (m : List Bytes) → sale_of_items s (items sec n (lines_as (l ∷ m))) ≡ Err f) → LeftAt sec n s ls f
-stops_here sec n s ls f h at stuck =
+stops_here : (sec : Section) (n : ℕ) (s : Sale) (ls : Lines) (f : FileFault) → (Early sec → s.register ≡ []) → line_of f ≡ n → Why f ls
+    → ((l : Bytes) (ls' : Lines) → ls ≡ line l ls' → (m : List Bytes) → sale_of_items s (items sec n (lines_as (l ∷ m))) ≡ Err f)
+    → LeftAt sec n s ls f
+stops_here sec n s ls f h at why stuck =
     let c = closes sec n s h in
-    record { above = []; rest = ls; are = refl; count = omega arith; more = c.more; clean = c.clean; sale = c.sale; completes = c.gathers; stuck = stuck }
+    record {
+      above = [];
+      rest = ls;
+      are = refl;
+      count = omega arith;
+      more = c.more;
+      clean = c.clean;
+      sale = c.sale;
+      why = why;
+      completes = c.gathers;
+      stuck = stuck;
+    }
 
 goes_on : (sec next : Section) (n : ℕ) (s u : Sale) (l : Bytes) (ls : Lines) (f : FileFault)
     → ((go_on : Section → Items) → sale_of_items s (after_verdict (verdict_on sec n l) go_on) ≡ sale_of_items u (go_on next))
@@ -170,6 +227,7 @@ goes_on sec next n s u l ls f carry k = record {
   more = k.more;
   clean = k.clean;
   sale = k.sale;
+  why = k.why;
   completes = carry (λ next. items next (n + 1) (lines_as (k.above ++ k.more))) ∙ k.completes;
   stuck = λ l' ls' e m. carry (λ next. items next (n + 1) (lines_as (k.above ++ (l' ∷ m)))) ∙ k.stuck l' ls' e m;
 }
@@ -177,40 +235,45 @@ goes_on sec next n s u l ls f carry k = record {
 module _ (sec : Section) (n : ℕ) (l : Bytes) (ls : Lines) (s : Sale) (f : FileFault) (early : Early sec → s.register ≡ [])
     (ih : (next : Section) (u : Sale) → (Early next → u.register ≡ []) → sale_of_items u (items next (n + 1) ls) ≡ Err f → LeftAt next (n + 1) u ls f) where
   -- a line that is refused, whatever comes behind it
-  refused_here : (v : Verdict) → verdict_on sec n l ≡ v → line_of f ≡ n → ((go_on : Section → Items) → sale_of_items s (after_verdict v go_on) ≡ Err f)
+  refused_here : (v : Verdict) → verdict_on sec n l ≡ v → line_of f ≡ n → Told f l
+      → ((go_on : Section → Items) → sale_of_items s (after_verdict v go_on) ≡ Err f)
       → LeftAt sec n s (line l ls) f
   unfolding items
-  refused_here v j at stays =
-      stops_here sec n s (line l ls) f early at
+  refused_here v j at told stays =
+      stops_here sec n s (line l ls) f early at (why_here f l ls told)
       (λ l' ls' e m.
       let same : l ≡ l' = cc in
       let go_on : Section → Items = λ next. items next (n + 1) (lines_as m) in
       ap (λ z. sale_of_items s (after_verdict (verdict_on sec n z) go_on)) (sym same) ∙ ap (λ v. sale_of_items s (after_verdict v go_on)) j ∙ stays go_on)
 
   bidder_walk : (m b : ℕ) (key : Bytes) (next : Section) (r : Result (List RegisterEntry) ListFault)
-      → verdict_on sec n l ≡ said (bidder_item m b key) next → m ≡ n → (Early next → ⊥) → enrolment (record { bidder = b; key = written_bytes key }) s.register ≡ r
+      → verdict_on sec n l ≡ said (bidder_item m b key) next → m ≡ n → (Early next → ⊥) → IsBidderLine l
+      → enrolment (record { bidder = b; key = written_bytes key }) s.register ≡ r
       → and_then m r (λ register. sale_of_items (with_register register s) (items next (n + 1) ls)) ≡ Err f → LeftAt sec n s (line l ls) f
   unfolding sale_of_items
-  bidder_walk m b key next (Ok ys) j at late e g =
+  bidder_walk m b key next (Ok ys) j at late is e g =
       goes_on sec next n s (with_register ys s) l ls f
-      (λ go_on. ap (λ v. sale_of_items s (after_verdict v go_on)) j ∙ ap (λ r. and_then m r (λ register. sale_of_items (with_register register s) (go_on next))) e)
+      (λ go_on. ap (λ v. sale_of_items s (after_verdict v go_on)) j
+      ∙ ap (λ r. and_then m r (λ register. sale_of_items (with_register register s) (go_on next))) e)
       (ih next (with_register ys s) (λ x. absurd (late x)) g)
-  bidder_walk m b key next (Err w) j at late e g =
+  bidder_walk m b key next (Err w) j at late is e g =
       let q : ByList m w ≡ f = cc in
-      refused_here (said (bidder_item m b key) next) j (ap line_of (sym q) ∙ at)
+      refused_here (said (bidder_item m b key) next) j (ap line_of (sym q) ∙ at) (subst (λ x. Told x l) q (inr is))
       (λ go_on. ap (λ r. and_then m r (λ register. sale_of_items (with_register register s) (go_on next))) e ∙ ap Err q)
 
-  walk_by : (v : Verdict) → verdict_on sec n l ≡ v → Onward sec n v → sale_of_items s (after_verdict v (λ next. items next (n + 1) ls)) ≡ Err f
+  walk_by : (v : Verdict) → verdict_on sec n l ≡ v → Onward sec n l v → sale_of_items s (after_verdict v (λ next. items next (n + 1) ls)) ≡ Err f
       → LeftAt sec n s (line l ls) f
   unfolding sale_of_items
-  walk_by (refused g) j o e = let q : g ≡ f = cc in refused_here (refused g) j (ap line_of (sym q) ∙ o) (λ go_on. ap Err q)
+  walk_by (refused g) j o e =
+      let q : g ≡ f = cc in
+      refused_here (refused g) j (ap line_of (sym q) ∙ o.0) (subst (λ x. Told x l) q o.1) (λ go_on. ap Err q)
   walk_by (passed next) j o e =
       goes_on sec next n s s l ls f (λ go_on. ap (λ v. sale_of_items s (after_verdict v go_on)) j) (ih next s (λ x. early (o x)) e)
   walk_by (said (lot_item lot v terms) next) j o e =
       goes_on sec next n s (with_lot lot v terms s) l ls f (λ go_on. ap (λ v. sale_of_items s (after_verdict v go_on)) j)
       (ih next (with_lot lot v terms s) (λ x. early (o x)) e)
   walk_by (said (bidder_item m b key) next) j o e =
-      bidder_walk m b key next (enrolment (record { bidder = b; key = written_bytes key }) s.register) j o.0 o.1 refl e
+      bidder_walk m b key next (enrolment (record { bidder = b; key = written_bytes key }) s.register) j o.0 o.1 o.2 refl e
   walk_by (said (envelope_item m ds) next) j o e =
       goes_on sec next n s s l ls f (λ go_on. ap (λ v. sale_of_items s (after_verdict v go_on)) j) (ih next s (λ x. absurd (o x)) e)
 
@@ -226,13 +289,17 @@ ended Bidders n s f e = cc
 ended EnvelopeNames n s f e = cc
 ended Envelopes n s f e = absurd (let z : ◌≡◌ {A = ℕ} 0 1 = cc in omega arith)
 
-pub walk : (ls : Lines) (sec : Section) (n : ℕ) (s : Sale) (f : FileFault) → (Early sec → s.register ≡ []) → sale_of_items s (items sec n ls) ≡ Err f
+pub walk : (ls : Lines) (sec : Section) (n : ℕ) (s : Sale) (f : FileFault) → (Early sec → s.register ≡ [])
+    → sale_of_items s (items sec n ls) ≡ Err f
     → LeftAt sec n s ls f
 unfolding sale_of_items items
 walk finished sec n s f early e =
-    stops_here sec n s finished f early (ap line_of (sym (ended sec n s f e))) (λ l ls' q m. absurd (let z : ◌≡◌ {A = ℕ} 0 1 = cc in omega arith))
+    let q : Form n ≡ f = ended sec n s f e in
+    stops_here sec n s finished f early (ap line_of (sym q)) (why_form n f finished q)
+    (λ l ls' p m. absurd (let z : ◌≡◌ {A = ℕ} 0 1 = cc in omega arith))
 walk torn sec n s f early e =
     let q : Form n ≡ f = cc in
-    stops_here sec n s torn f early (ap line_of (sym q)) (λ l ls' q m. absurd (let z : ◌≡◌ {A = ℕ} 0 1 = cc in omega arith))
+    stops_here sec n s torn f early (ap line_of (sym q)) (why_form n f torn q)
+    (λ l ls' p m. absurd (let z : ◌≡◌ {A = ℕ} 0 1 = cc in omega arith))
 walk (line l ls) sec n s f early e =
     walk_by sec n l ls s f early (λ next u k g. walk ls next (n + 1) u f k g) (verdict_on sec n l) refl (onward sec n l) e

@@ -1,5 +1,5 @@
 -- The lines of the lot, of a bidder and of an envelope, written and read.
-use Rattle.std.proofs.Common.{◌≡◌, ℕ, ◌+◌, ◌*◌, ◌%◌, ◌^◌, ◌<◌, ◌≤◌, Bool, true, false, cond, ltb, leb, eqb, [], ◌∷◌, ◌++◌, length, Some, None, Ok, Err, codes, decimal, Option, sym, refl, ap, ◌∙◌, arith, rules, length-append}
+use Rattle.std.proofs.Common.{◌≡◌, ℕ, ◌+◌, ◌*◌, ◌%◌, ◌^◌, ◌<◌, ◌≤◌, Bool, true, false, ◌&&◌, cond, ltb, leb, eqb, [], ◌∷◌, ◌++◌, length, Some, None, Ok, Err, codes, decimal, Option, sym, refl, ap, ◌∙◌, arith, rules, length-append}
 use Rattle.std.specs.List.{AllByRecursion}
 use Rattle.std.specs.Str.{bytes_eq}
 use Rattle.std.proofs.lemmas.Bool.{and_parts, and_from, le-leb, leb-true, lt-ltb, ltb-true, eqb-true, eq-eqb}
@@ -35,7 +35,8 @@ variant_of-name Dumbo = refl
 variant_of-name Jumbo = refl
 variant_of-name Delirium = refl
 
-variant_by : (name : Bytes) (v : Variant) (d j s : Bool) → bytes_eq name (codes "dumbo") ≡ d → bytes_eq name (codes "jumbo") ≡ j → bytes_eq name (codes "delirium") ≡ s
+variant_by : (name : Bytes) (v : Variant) (d j s : Bool) → bytes_eq name (codes "dumbo") ≡ d → bytes_eq name (codes "jumbo") ≡ j
+    → bytes_eq name (codes "delirium") ≡ s
     → cond d (Some Dumbo) (cond j (Some Jumbo) (cond s (Some Delirium) None)) ≡ Some v → name ≡ variant_name v
 variant_by name v true j s p q r e = let h : Dumbo ≡ v = cc in (bytes_eq-Decides name (codes "dumbo")).0 p ∙ ap variant_name h
 variant_by name v false true s p q r e = let h : Jumbo ≡ v = cc in (bytes_eq-Decides name (codes "jumbo")).0 q ∙ ap variant_name h
@@ -43,14 +44,16 @@ variant_by name v false false true p q r e = let h : Delirium ≡ v = cc in (byt
 variant_by name v false false false p q r e = absurd (let z : ◌≡◌ {A = ℕ} 0 1 = cc in omega arith)
 
 name_back : (name : Bytes) (v : Variant) → variant_of name ≡ Some v → name ≡ variant_name v
-name_back name v e = variant_by name v (bytes_eq name (codes "dumbo")) (bytes_eq name (codes "jumbo")) (bytes_eq name (codes "delirium")) refl refl refl e
+name_back name v e =
+    variant_by name v (bytes_eq name (codes "dumbo")) (bytes_eq name (codes "jumbo")) (bytes_eq name (codes "delirium")) refl refl refl e
 
 -- the lot
 lot_by : (n lot : ℕ) (v : Variant) (terms : Bytes) (t : Bool) (o : Option ℕ) (w : Option Variant) (ts : Bytes)
     → t ≡ true → o ≡ Some lot → w ≡ Some v → ts ≡ terms → length terms ≤ 64 → lot_values n t o w ts ≡ Ok (lot_item lot v terms)
 lot_by n lot v terms t o w ts a b c d l = rw (a, b, c, d, le-leb (length terms) 64 l) refl
 
-pub lot_read : (n lot : ℕ) (v : Variant) (terms : Bytes) → lot < 2 ^ 32 → length terms ≤ 64 → lot_line_item n (lot_line lot v terms) ≡ Ok (lot_item lot v terms)
+pub lot_read : (n lot : ℕ) (v : Variant) (terms : Bytes) → lot < 2 ^ 32 → length terms ≤ 64
+    → lot_line_item n (lot_line lot v terms) ≡ Ok (lot_item lot v terms)
 lot_read n lot v terms s l =
     let rest = variant_name v ++ (44 ∷ terms) in
     let w = without_decimal 44 lot (omega arith) s in
@@ -58,7 +61,8 @@ lot_read n lot v terms s l =
     let b : behind (lot_line lot v terms) ≡ rest = behind-append 44 (decimal lot) rest w in
     let f : field (lot_line lot v terms) ≡ decimal lot = field-append 44 (decimal lot) rest w in
     lot_by n lot v terms _ _ _ _
-    (and_from (holds_comma (lot_line lot v terms)) _ (holds-append 44 (decimal lot) rest w) (ap holds_comma b ∙ holds-append 44 (variant_name v) terms u))
+    (and_from (holds_comma (lot_line lot v terms)) _ (holds-append 44 (decimal lot) rest w)
+    (ap holds_comma b ∙ holds-append 44 (variant_name v) terms u))
     (ap number_of f ∙ number_of-decimal lot s)
     (ap (λ z. variant_of (field z)) b ∙ ap variant_of (field-append 44 (variant_name v) terms u) ∙ variant_of-name v)
     (ap behind b ∙ behind-append 44 (variant_name v) terms u) l
@@ -85,29 +89,30 @@ lot_back n true (Some lot) None ts i e = absurd (let z : ◌≡◌ {A = ℕ} 0 1
 lot_back n true None w ts i e = absurd (let z : ◌≡◌ {A = ℕ} 0 1 = cc in omega arith)
 lot_back n false o w ts i e = absurd (let z : ◌≡◌ {A = ℕ} 0 1 = cc in omega arith)
 
+-- a line with the three fields of the lot is the lot's
+pub lot_is : (l : Bytes) (lot : ℕ) (v : Variant) → (holds_comma l && holds_comma (behind l)) ≡ true → number_of (field l) ≡ Some lot
+    → variant_of (field (behind l)) ≡ Some v → (l ≡ lot_line lot v (behind (behind l))) × (lot < 2 ^ 32)
+lot_is l lot v t o w =
+    let commas = and_parts (holds_comma l) (holds_comma (behind l)) t in
+    let number = decimal-number_of (field l) lot o in
+    let name = name_back (field (behind l)) v w in
+    let rest : behind l ≡ variant_name v ++ (44 ∷ behind (behind l)) =
+    sym (append-fields 44 (behind l) commas.1) ∙ ap (λ z. z ++ (44 ∷ behind (behind l))) name in
+    (sym (append-fields 44 l commas.0) ∙ ap (λ z. z ++ (44 ∷ behind l)) number.0 ∙ ap (λ z. decimal lot ++ (44 ∷ z)) rest, number.1)
+
 pub lot_written : (n : ℕ) (l : Bytes) (i : Item) → lot_line_item n l ≡ Ok i → LotRead l i
 lot_written n l i e =
     let k = lot_back n _ _ _ (behind (behind l)) i e in
-    let commas = and_parts (holds_comma l) (holds_comma (behind l)) k.2 in
-    let number = decimal-number_of (field l) k.0 k.3 in
-    let name = name_back (field (behind l)) k.1 k.4 in
-    let rest : behind l ≡ variant_name k.1 ++ (44 ∷ behind (behind l)) = sym (append-fields 44 (behind l) commas.1) ∙ ap (λ z. z ++ (44 ∷ behind (behind l))) name in
-    record {
-      lot = k.0;
-      variant = k.1;
-      terms = behind (behind l);
-      says = k.5;
-      is = sym (append-fields 44 l commas.0) ∙ ap (λ z. z ++ (44 ∷ behind l)) number.0 ∙ ap (λ z. decimal k.0 ++ (44 ∷ z)) rest;
-      small = number.1;
-      short = k.6;
-    }
+    let is = lot_is l k.0 k.1 k.2 k.3 k.4 in
+    record { lot = k.0; variant = k.1; terms = behind (behind l); says = k.5; is = is.0; small = is.1; short = k.6 }
 
 -- a bidder
-bidder_by : (n b : ℕ) (key : Bytes) (t : Bool) (o : Option ℕ) (ds : Bytes)
+pub bidder_by : (n b : ℕ) (key : Bytes) (t : Bool) (o : Option ℕ) (ds : Bytes)
     → t ≡ true → o ≡ Some b → ds ≡ key → is_key key ≡ true → bidder_values n t o ds ≡ Ok (bidder_item n b key)
 bidder_by n b key t o ds p q r k = rw (p, q, r, k) refl
 
-pub bidder_read : (n : ℕ) (e : RegisterEntry) → LawfulBidder e → bidder_line_item n (bidder_line e) ≡ Ok (bidder_item n e.bidder (hexadecimal e.key))
+pub bidder_read : (n : ℕ) (e : RegisterEntry) → LawfulBidder e
+    → bidder_line_item n (bidder_line e) ≡ Ok (bidder_item n e.bidder (hexadecimal e.key))
 bidder_read n e h =
     let w = without_decimal 44 e.bidder (omega arith) h.number in
     let key = hexadecimal e.key in
@@ -196,14 +201,17 @@ lot_line_clean lot v terms s w =
 
 pub bidder_line_clean : (e : RegisterEntry) → LawfulBidder e → Without 10 (bidder_line e)
 bidder_line_clean e h =
-    without_append 10 (decimal e.bidder) _ (without_decimal 10 e.bidder (omega arith) h.number) (λ e. (omega arith), without_hexadecimal 10 _ (omega arith) h.bytes)
+    without_append 10 (decimal e.bidder) _ (without_decimal 10 e.bidder (omega arith) h.number)
+    (λ e. (omega arith), without_hexadecimal 10 _ (omega arith) h.bytes)
 
 pub terms_clean : (lot : ℕ) (v : Variant) (terms : Bytes) → Without 10 (lot_line lot v terms) → Without 10 terms
 terms_clean lot v terms w =
-    without_behind 10 (44 ∷ []) terms (without_behind 10 (variant_name v) (44 ∷ terms) (without_behind 10 (44 ∷ []) _ (without_behind 10 (decimal lot) _ w)))
+    without_behind 10 (44 ∷ []) terms
+    (without_behind 10 (variant_name v) (44 ∷ terms) (without_behind 10 (44 ∷ []) _ (without_behind 10 (decimal lot) _ w)))
 
 -- a bidder's line is not empty
 pub bidder_line_some : (e : RegisterEntry) → 0 < length (bidder_line e)
 bidder_line_some e =
-    let h : length (bidder_line e) ≡ length (decimal e.bidder) + length (44 ∷ hexadecimal e.key) = length-append (decimal e.bidder) (44 ∷ hexadecimal e.key) in
+    let h : length (bidder_line e) ≡ length (decimal e.bidder) + length (44 ∷ hexadecimal e.key) =
+    length-append (decimal e.bidder) (44 ∷ hexadecimal e.key) in
     omega arith

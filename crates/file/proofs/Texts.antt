@@ -50,7 +50,8 @@ joined-lengthened c finished w = absurd w
 joined-lengthened c torn w = absurd w
 joined-lengthened c (line l ls) w = (w, refl)
 
-joined_by : (c : ℕ) (cs : Bytes) (t : Bool) → eqb c 10 ≡ t → (IsWhole (lines cs) → joined (lines cs) ≡ cs) → IsWhole (lines (c ∷ cs)) → joined (lines (c ∷ cs)) ≡ c ∷ cs
+joined_by : (c : ℕ) (cs : Bytes) (t : Bool) → eqb c 10 ≡ t → (IsWhole (lines cs) → joined (lines cs) ≡ cs)
+    → IsWhole (lines (c ∷ cs)) → joined (lines (c ∷ cs)) ≡ c ∷ cs
 joined_by c cs true e ih w =
     let h = lines_here c cs e in
     ap joined h ∙ ap (λ z. 10 ∷ z) (ih (subst IsWhole h w)) ∙ ap (λ z. z ∷ cs) (sym (eqb-true c 10 e))

@@ -37,12 +37,14 @@ bidder_line e = decimal e.bidder ++ (44 ∷ hexadecimal e.key)
 
 -- The lines from the first bidder on: the bidders, an empty line, and below their name the envelopes.
 abbrev pub lines_below : List RegisterEntry → List Bytes → List Bytes
-lines_below bidders envelopes = map bidder_line bidders ++ ([] ∷ codes "envelope" ∷ map hexadecimal envelopes)
+lines_below bidders envelopes =
+    map bidder_line bidders ++ ([] ∷ codes "envelope" ∷ map hexadecimal envelopes)
 
 -- The lines of a file.
 abbrev pub lines_of : Particulars → List Bytes
 lines_of p =
-    codes "lot,variant,terms" ∷ lot_line p.lot p.variant p.terms ∷ [] ∷ codes "bidder,key" ∷ lines_below p.bidders p.envelopes
+    codes "lot,variant,terms" ∷ lot_line p.lot p.variant p.terms
+    ∷ [] ∷ codes "bidder,key" ∷ lines_below p.bidders p.envelopes
 
 -- Lines as a text, each ended by byte 10.
 unfoldable pub text_of : List Bytes → Bytes

@@ -1,13 +1,15 @@
 -- The format against what is read: which files are accepted, and what is read of them.
-use Rattle.std.specs.Prelude.{◌≡◌, ℕ, ◌+◌, ◌<◌, ◌≤◌, ◌↔◌, List, [], ◌∷◌, ◌++◌, length, Ok, Err, IsPermutation}
+use Rattle.std.specs.Prelude.{◌≡◌, ℕ, ◌+◌, ◌^◌, ◌<◌, ◌≤◌, ◌⊎◌, ◌↔◌, List, [], ◌∷◌, ◌++◌, length, Ok, Err, IsPermutation}
+use Rattle.engine.specs.declared.variants.Variant.{Variant}
 use Rattle.list.specs.Order.{Rising, by_key}
 use Rattle.room.specs.Sales.{Bytes}
+use Rattle.room.specs.declared.register.RegisterEntry.{RegisterEntry}
 use Rattle.file.specs.Contents.{Sent, FileContents, contents_in}
 use Rattle.file.specs.Faults.{line_of}
-use Rattle.file.specs.Format.{Particulars, LawfulParticulars, lines_of, text_of, file_of}
+use Rattle.file.specs.Format.{Particulars, LawfulParticulars, LawfulBidder, lot_line, bidder_line, lines_of, text_of, file_of}
 use Rattle.file.specs.Input.{most_bytes}
 use Rattle.file.specs.declared.faults.FileFault.{FileFault}
-use Rattle.file.specs.declared.faults.FileFault.TheVariants.{TooLong}
+use Rattle.file.specs.declared.faults.FileFault.TheVariants.{TooLong, Form, TermsLength, List as ByList, Cipher, Room}
 
 -- A file is accepted, and gives its contents.
 abbrev pub IsAccepted : Bytes → Type 0
@@ -15,7 +17,8 @@ IsAccepted file = (c : FileContents) × (contents_in file ≡ Ok c)
 
 -- A file that is short enough, and says lawful particulars.
 abbrev pub IsOfFormat : Bytes → Type 0
-IsOfFormat file = (length file ≤ most_bytes) × ((p : Particulars) × LawfulParticulars p × (file ≡ file_of p))
+IsOfFormat file =
+    (length file ≤ most_bytes) × ((p : Particulars) × LawfulParticulars p × (file ≡ file_of p))
 
 -- Envelopes with their lines, the first in line n.
 unfoldable pub sent_from : ℕ → List Bytes → List Sent
@@ -34,16 +37,32 @@ pub record ContentsOf (p : Particulars) (c : FileContents) : Type 0 where
 
 -- Lines begin a file that can be written, with more lines behind them or none.
 abbrev pub BeginFile : List Bytes → Type 0
-BeginFile ls = (p : Particulars) × LawfulParticulars p × ((more : List Bytes) × (lines_of p ≡ ls ++ more))
+BeginFile ls =
+    (p : Particulars) × LawfulParticulars p × ((more : List Bytes) × (lines_of p ≡ ls ++ more))
 
--- A file leaves the format in line n: the lines above begin a file, and with line n they do not, or it is missing or not ended.
-pub record LeavesFormat (file : Bytes) (n : ℕ) : Type 0 where
+-- A line has the form of what it says, and is refused for what it says: the lot's for terms that are too long, a bidder's by the list.
+abbrev pub IsRefusedThough : FileFault → Bytes → Type 0
+IsRefusedThough TooLong l = ⊥
+IsRefusedThough (Form n) l = ⊥
+IsRefusedThough (TermsLength n) l =
+    (lot : ℕ) × (v : Variant) × (terms : Bytes)
+    × (l ≡ lot_line lot v terms) × (lot < 2 ^ 32) × (64 < length terms)
+IsRefusedThough (ByList n cause) l = (e : RegisterEntry) × LawfulBidder e × (l ≡ bidder_line e)
+IsRefusedThough (Cipher cause) l = ⊥
+IsRefusedThough (Room cause) l = ⊥
+
+-- A fault tells where a file leaves the format: the lines above that line begin a file, and with it they do not, or it is missing or not ended.
+-- It is a fault of the form, unless the line has its form.
+pub record LeavesFormat (file : Bytes) (f : FileFault) : Type 0 where
   pub above : List Bytes
   pub rest : Bytes
   pub are : file ≡ text_of above ++ rest
-  pub number : n ≡ length above + 1
+  pub number : line_of f ≡ length above + 1
   pub begin : BeginFile above
   pub breaks : (l behind : Bytes) → rest ≡ l ++ (10 ∷ behind) → BeginFile (above ++ (l ∷ [])) → ⊥
+  pub why :
+      (f ≡ Form (line_of f))
+      ⊎ ((l : Bytes) × (behind : Bytes) × (rest ≡ l ++ (10 ∷ behind)) × IsRefusedThough f l)
 
 -- The laws of the format.
 pub record LawsOfFormat : Type 0 where
@@ -51,11 +70,15 @@ pub record LawsOfFormat : Type 0 where
   pub accepted_files_are_those_of_the_format : (file : Bytes) → IsAccepted file ↔ IsOfFormat file
   -- What is read of a file is what it was written to say.
   pub what_is_written_is_read :
-      (p : Particulars) (c : FileContents) → LawfulParticulars p → contents_in (file_of p) ≡ Ok c → ContentsOf p c
+      (p : Particulars) (c : FileContents) → LawfulParticulars p
+      → contents_in (file_of p) ≡ Ok c → ContentsOf p c
   -- Different particulars are never written alike.
   pub different_particulars_have_different_files :
-      (p q : Particulars) → LawfulParticulars p → LawfulParticulars q → file_of p ≡ file_of q → p ≡ q
+      (p q : Particulars) → LawfulParticulars p → LawfulParticulars q
+      → file_of p ≡ file_of q → p ≡ q
   -- A file that is too long is refused as such, and any other at the line in which it leaves the format.
-  pub long_files_are_refused_as_too_long : (file : Bytes) → most_bytes < length file → contents_in file ≡ Err TooLong
+  pub long_files_are_refused_as_too_long :
+      (file : Bytes) → most_bytes < length file → contents_in file ≡ Err TooLong
   pub other_files_are_refused_at_the_line_that_leaves_the_format :
-      (file : Bytes) (f : FileFault) → length file ≤ most_bytes → contents_in file ≡ Err f → LeavesFormat file (line_of f)
+      (file : Bytes) (f : FileFault) → length file ≤ most_bytes
+      → contents_in file ≡ Err f → LeavesFormat file f

@@ -14,7 +14,7 @@ use cipher::KEY_BYTES;
 use envelope::MOST_TERMS_BYTES;
 
 impl RoomState {
-    /// A fresh place: by a rule of the project a closed room of lot 0 without bidders.
+    /// A fresh place: a closed room of lot 0 without bidders.
     pub fn fresh() -> RoomState
         ensures { IsFreshPlace result }
     {

@@ -33,7 +33,7 @@ fn put_lines(page: &mut [u8], start: usize, lot: u32, sheet: &[SheetEntry]) -> u
     ensures page { page.new ≡ place_with_at page.old start (flat_map line_of (rows lot sheet.now)) }
 {
     let mut at = start;
-    // By a rule of the project the page is written by a loop with an index over the sheet.
+    // By index: each line goes behind the one before it.
     for i in 0..sheet.len() {
         let SheetEntry { bidder, amount } = sheet[i];
         at = put_line(

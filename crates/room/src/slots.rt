@@ -16,10 +16,8 @@ pub enum Phase {
 
 // A registered bidder with its key, and the last accepted envelope: its sequence (0 where none was accepted), the sealed letter and the
 // tag. A tag of eight bytes stands in the first eight.
-// The sequence is a plain number and no Option: asking answers it as it is, and by the rules of lodging it is the last accepted sequence, which
-// is 0 at first.
-// By a rule of the project a slot has its key, letter and tag arrays itself: so it holds no register entry, and its tag is an array with
-// room for the longest, cut to the variant's where it is read.
+// The sequence is a plain number and no Option: it is the last accepted one, which is 0 at first, and asking answers it as it is. The tag has room
+// for the longest, and is cut to the variant's where it is read.
 #[derive(Clone, Copy)]
 pub struct Slot {
     pub bidder: u32,

@@ -11,8 +11,7 @@ use envelope::MOST_TERMS_BYTES;
 pub const MOST_BIDDERS: usize = 64;
 
 /// What a room keeps. The terms are the first `terms_bytes` of their array, and the slots in use the first `count`, in the register's order:
-/// they rise by bidder. These are arrays with counts and no Vec: by a rule of the project a room's place is a plain struct of arrays that the
-/// caller lends, with room for the most of each.
+/// they rise by bidder. A room's place is a plain struct of arrays that the caller lends, with room for the most of each.
 #[derive(Drop)]
 pub struct RoomState {
     pub(crate) phase: Phase,
