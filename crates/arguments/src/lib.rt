@@ -94,8 +94,7 @@ pub fn read<'a, S: AsStr>(
     mut command: Command<'a>,
     words: &'a [S],
 ) -> Result<ArgMatches<'a>, Notice>
-    ensures matches
-        { IfOk result (HasMatchesOf (app_of command.entry) (map S.text words.entry.now)) }
+    ensures matches { IfOk result (HasMatchesOf (app_of command.entry) (map S.text words.entry.now)) }
     ensures fault { is_simple_and_free (app_of command.entry) ≡ true
         → TellsFault (fault_of (app_of command.entry) (map S.text words.entry.now)) result }
 {
@@ -116,8 +115,7 @@ pub fn read_no_arguments<'a, S: AsStr>(
     about: &'a str,
     words: &'a [S],
 ) -> Result<(), Notice>
-    ensures fault
-        { TellsFault (fault_of (new_app name.entry.now) (map S.text words.entry.now)) result }
+    ensures fault { TellsFault (fault_of (new_app name.entry.now) (map S.text words.entry.now)) result }
 
     // What this comes to, by the words after the program's name.
     ensures run { drop 1 (map S.text words.entry.now) ≡ []
