@@ -1,1 +1,1 @@
-pub mod NoArguments
+mod NoArguments

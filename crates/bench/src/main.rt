@@ -25,10 +25,15 @@ const ABOUT: &str =
 const MEASURE: &str = "measure";
 
 // Here and below the name of an engine goes beside it: a struct of both would be made for each call alone, and be taken apart in it.
-fn agreements(rt: &HostRuntime) -> anyhow::Result<()> {
-    run_agreement(rt, "Dumbo, circuit", &Circuit::Dumbo)?;
-    run_agreement(rt, "Jumbo, circuit", &Circuit::Jumbo)?;
-    run_agreement(rt, "Delirium, interleaved", &Interleaved)
+fn agreements(rt: &HostRuntime) -> anyhow::Result<ExitCode> {
+    let dumbo = run_agreement(rt, "Dumbo, circuit", &Circuit::Dumbo)?;
+    let jumbo = run_agreement(rt, "Jumbo, circuit", &Circuit::Jumbo)?;
+    let delirium = run_agreement(rt, "Delirium, interleaved", &Interleaved)?;
+    if dumbo && jumbo && delirium {
+        Ok(ExitCode::SUCCESS)
+    } else {
+        Ok(ExitCode::FAILURE)
+    }
 }
 
 fn plain(variant: Variant) -> Plain {
@@ -62,11 +67,13 @@ fn command<'a>(alloc: Global) -> Result<Command<'a>, AllocError> {
 fn run(rt: &HostRuntime) -> anyhow::Result<ExitCode> {
     let words: Vec<String> = env::args(rt)?.collect(rt.alloc())?;
     match read(command(rt.alloc())?, words.as_slice()) {
-        Ok(matches) if matches.contains_id("what") => measure(rt)?,
-        Ok(_none) => agreements(rt)?,
-        Err(notice) => return Ok(notice.print(rt)?),
+        Ok(matches) if matches.contains_id("what") => {
+            measure(rt)?;
+            Ok(ExitCode::SUCCESS)
+        }
+        Ok(_none) => agreements(rt),
+        Err(notice) => Ok(notice.print(rt)?),
     }
-    Ok(ExitCode::SUCCESS)
 }
 
 fn main(rt: HostRuntime) -> ExitCode {

@@ -9,9 +9,7 @@ use Rattle.file.specs.declared.line.Section.{Section}
 use Rattle.file.specs.declared.line.Section.TheVariants.{LotNames, LotValues, LotEnd, BidderNames, FirstBidder, Bidders, EnvelopeNames, Envelopes}
 use Rattle.file.specs.declared.reader.Reader.{Reader}
 use Rattle.file.specs.Form.{verdict_on, after_verdict, at_the_end, end, broken, item, items}
-use Rattle.file.specs.Read.{items_left, items_if, first_of, rest_of}
-use Rattle.file.specs.Said.{item_of}
-use Rattle.file.specs.Stepping.{Moves, GivesNext}
+use Rattle.file.specs.Reader.{items_left, items_if, first_of, rest_of, item_of, Moves, GivesNext}
 use Rattle.file.specs.Lines.{Lines, finished, torn, line, lines_with_byte, lines}
 use Rattle.file.specs.Fields.{place_of, holds}
 

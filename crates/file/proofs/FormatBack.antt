@@ -9,7 +9,7 @@ use Rattle.list.specs.Order.{by_key}
 use Rattle.list.specs.declared.faults.ListFault.{ListFault}
 use Rattle.room.specs.Sales.{Bytes, Sale}
 use Rattle.room.specs.declared.register.RegisterEntry.{RegisterEntry}
-use Rattle.file.specs.Contents.{with_lot, with_register, and_then, enrolment, sale_of_items, unknown_sale}
+use Rattle.file.specs.Contents.{Refusal, with_lot, with_register, and_then, enrolment, sale_of_items, unknown_sale}
 use Rattle.file.specs.Form.{Item, Items, broken, item, lot_item, bidder_item, envelope_item, passed, refused, line_must_be, line_must_say, bidder_line_item, envelope_line_item, lot_line_item, verdict_on, after_verdict, at_the_end, items}
 use Rattle.file.specs.Format.{Particulars, LawfulParticulars, LawfulBidder, LawfulEnvelope, hexadecimal, lot_line, bidder_line, lines_below, lines_of}
 use Rattle.file.specs.Lines.{Lines, finished, torn, line}
@@ -56,10 +56,10 @@ envelope_gathers : (n : ℕ) (ds : Bytes) (i : Item) (is : Items) (s t : Sale) �
 unfolding sale_of_items
 envelope_gathers n ds i is s t e g = sym (ap (λ j. sale_of_items s (item j is)) e) ∙ g
 
-and_then_back : (n : ℕ) (r : Result (List RegisterEntry) ListFault) (go_on : List RegisterEntry → Result Sale FileFault) (t : Sale)
-    → and_then n r go_on ≡ Ok t → (ys : List RegisterEntry) × (r ≡ Ok ys) × (go_on ys ≡ Ok t)
-and_then_back n (Ok ys) go_on t e = (ys, refl, e)
-and_then_back n (Err f) go_on t e = absurd (let z : ◌≡◌ {A = ℕ} 0 1 = cc in omega arith)
+and_then_back : (n : ℕ) (s : Sale) (r : Result (List RegisterEntry) ListFault) (go_on : List RegisterEntry → Result Sale Refusal) (t : Sale)
+    → and_then n s r go_on ≡ Ok t → (ys : List RegisterEntry) × (r ≡ Ok ys) × (go_on ys ≡ Ok t)
+and_then_back n s (Ok ys) go_on t e = (ys, refl, e)
+and_then_back n s (Err f) go_on t e = absurd (let z : ◌≡◌ {A = ℕ} 0 1 = cc in omega arith)
 
 bidder_gathers : (n : ℕ) (b : RegisterEntry) (i : Item) (is : Items) (s t : Sale) → LawfulBidder b
     → i ≡ bidder_item n b.bidder (hexadecimal b.key)
@@ -67,8 +67,8 @@ bidder_gathers : (n : ℕ) (b : RegisterEntry) (i : Item) (is : Items) (s t : Sa
     → (has_equal order b s.register ≡ false) × (length s.register < 64) × (sale_of_items (with_register (list_with order b s.register) s) is ≡ Ok t)
 unfolding sale_of_items
 bidder_gathers n b i is s t h e g =
-    let go_on : List RegisterEntry → Result Sale FileFault = λ register. sale_of_items (with_register register s) is in
-    let k = and_then_back n _ go_on t (sym (ap (λ j. sale_of_items s (item j is)) e) ∙ g) in
+    let go_on : List RegisterEntry → Result Sale Refusal = λ register. sale_of_items (with_register register s) is in
+    let k = and_then_back n s _ go_on t (sym (ap (λ j. sale_of_items s (item j is)) e) ∙ g) in
     let r = enrolled_back b s.register k.0 (sym (ap (λ x. enrolment x s.register) (bidder_back b h)) ∙ k.1) in
     (r.0, r.1, ap go_on r.2 ∙ k.2)
 

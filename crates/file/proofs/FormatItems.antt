@@ -8,7 +8,7 @@ use Rattle.list.specs.Insertion.{list_with}
 use Rattle.list.specs.Order.{by_key}
 use Rattle.room.specs.Sales.{Bytes, Sale}
 use Rattle.room.specs.declared.register.RegisterEntry.{RegisterEntry}
-use Rattle.file.specs.Contents.{with_register, and_then, enrolment, sale_of_items, envelopes_in}
+use Rattle.file.specs.Contents.{Refusal, with_register, and_then, enrolment, sale_of_items, envelopes_in}
 use Rattle.file.specs.Form.{Item, Items, end, item, lot_item, bidder_item, envelope_item, passed, line_must_say, bidder_line_item, after_verdict, items}
 use Rattle.file.specs.Format.{Particulars, LawfulParticulars, LawfulBidder, LawfulEnvelope, hexadecimal, bidder_line, lines_below, lines_of, file_of}
 use Rattle.file.specs.FormatLaws.{sent_from}
@@ -120,9 +120,9 @@ pub bidders_gathered : (s : Sale) (n : ℕ) (bs : List RegisterEntry) (es : List
 unfolding sale_of_items
 bidders_gathered s n [] es h k = envelopes_gathered s (n + 1 + 1) es
 bidders_gathered s n (b ∷ bs) es h k =
-    let go_on : List RegisterEntry → Result Sale FileFault = λ register. sale_of_items (with_register register s) (bidder_items (n + 1) bs es) in
-    ap (λ e. and_then n (enrolment e s.register) go_on) (bidder_back b h.0)
-    ∙ ap (λ r. and_then n r go_on) (enrolled_granted b s.register k.0 k.1)
+    let go_on : List RegisterEntry → Result Sale Refusal = λ register. sale_of_items (with_register register s) (bidder_items (n + 1) bs es) in
+    ap (λ e. and_then n s (enrolment e s.register) go_on) (bidder_back b h.0)
+    ∙ ap (λ r. and_then n s r go_on) (enrolled_granted b s.register k.0 k.1)
     ∙ bidders_gathered (with_register (list_with (by_key (λ x. x.bidder)) b s.register) s) (n + 1) bs es h.1 k.2
 
 pub envelopes_back : (n : ℕ) (es : List Bytes) → AllByRecursion LawfulEnvelope es → envelopes_in (envelope_items n es) ≡ sent_from n es

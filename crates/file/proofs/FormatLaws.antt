@@ -7,19 +7,19 @@ use Rattle.list.specs.Order.{by_key}
 use Rattle.list.proofs.Laws.{rising_empty}
 use Rattle.room.specs.Sales.{Bytes, Sale}
 use Rattle.room.specs.declared.register.RegisterEntry.{RegisterEntry}
-use Rattle.file.specs.Contents.{FileContents, Sent, with_envelopes, with_lot, with_register, sale_of_items, envelopes_in, unknown_sale, items_in, sale_in, contents_in}
+use Rattle.file.specs.Contents.{FileContents, Sent, with_envelopes, with_lot, with_register, sale_of_items, sale_or_fault, envelopes_in, unknown_sale, items_in, sale_in, contents_in}
 use Rattle.file.specs.Form.{Items, end, broken, item, lot_item, bidder_item, envelope_item, items}
 use Rattle.file.specs.Format.{Particulars, LawfulParticulars, LawfulBidder, LawfulEnvelope, lines_of, file_of}
 use Rattle.file.specs.FormatLaws.{IsAccepted, IsOfFormat, ContentsOf}
 use Rattle.file.specs.Hexadecimal.{written_bytes}
-use Rattle.file.specs.Input.{most_bytes}
-use Rattle.file.specs.Lines.{lines}
+use Rattle.file.specs.Lines.{most_bytes, lines}
 use Rattle.file.specs.declared.faults.FileFault.{FileFault}
 use Rattle.file.specs.declared.faults.FileFault.TheVariants.{TooLong}
 use Rattle.file.specs.declared.line.Section.TheVariants.{LotNames}
 use Rattle.file.proofs.Enrolments.{Enrollable, register_with, are_enrollable, all_new, bidders_permuted, register_rises}
 use Rattle.file.proofs.FormatBack.{read_all}
 use Rattle.file.proofs.FormatItems.{envelope_items, bidder_items, items_of, file_said, bidders_gathered, all_envelopes_back, bidder_back}
+use Rattle.file.proofs.Lawful.{accepted_gathers}
 use Rattle.file.proofs.HexTexts.{written_bytes-hexadecimal}
 use Rattle.file.proofs.Texts.{text_back, no_tens}
 
@@ -37,7 +37,7 @@ short_by false is s e = (refl, e)
 accepted_by : (file : Bytes) (c : FileContents) → contents_in file ≡ Ok c
     → (length file ≤ most_bytes) × (sale_of_items unknown_sale (items LotNames 1 (lines file)) ≡ Ok c.sale)
 accepted_by file c e =
-    let k = short_by (ltb most_bytes (length file)) (items LotNames 1 (lines file)) c.sale (contents_by (envelopes_in (items_in file)) (sale_in file) c e) in
+    let k = short_by (ltb most_bytes (length file)) (items LotNames 1 (lines file)) c.sale (accepted_gathers file c.sale (contents_by (envelopes_in (items_in file)) (sale_in file) c e)) in
     (ltb-false most_bytes (length file) k.0, k.1)
 
 -- an accepted file is of the format
@@ -66,8 +66,8 @@ module _ (p : Particulars) (h : LawfulParticulars p) where
   file_gives l =
       let said : items_in (file_of p) ≡ items_of p =
       ap (λ t. cond t (broken TooLong) (items LotNames 1 (lines (file_of p)))) (le-ltb most_bytes (length (file_of p)) l) ∙ file_said p h in
-      ap (λ is. with_envelopes (envelopes_in is) (sale_of_items unknown_sale is)) said
-      ∙ ap (with_envelopes (envelopes_in (items_of p))) given_gathered
+      ap (λ is. with_envelopes (envelopes_in is) (sale_or_fault (sale_of_items unknown_sale is))) said
+      ∙ ap (λ r. with_envelopes (envelopes_in (items_of p)) (sale_or_fault r)) given_gathered
 
   given_of : ContentsOf p given
   unfolding envelopes_in

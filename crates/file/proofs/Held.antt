@@ -13,9 +13,9 @@ use Rattle.room.specs.declared.faults.RoomFault.{RoomFault}
 use Rattle.room.specs.declared.slots.Phase.TheVariants.{Open}
 use Rattle.room.specs.declared.state.RoomState.{RoomState}
 use Rattle.file.specs.Contents.{FileContents, Sent}
-use Rattle.file.specs.Holding.{HeldIn, WasHeld}
+use Rattle.file.specs.Sale.{HeldIn, WasHeld}
 use Rattle.file.specs.Report.{lodging_of, room_of_sale, answer_lines, room_after_all, page_in, accepted_report}
-use Rattle.file.specs.Stepwise.{lodging_call, GoesThrough}
+use Rattle.file.specs.steps.Sale.{lodging_call, GoesThrough}
 use Rattle.file.specs.Theorems.{KeepsLimits}
 use Rattle.file.proofs.Pages.{lodged_phase, held_prints}
 use Rattle.file.proofs.Registers.{is_lawful}

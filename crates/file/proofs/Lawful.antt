@@ -10,15 +10,14 @@ use Rattle.list.specs.declared.faults.ListFault.TheVariants.{EqualEntry, Full}
 use Rattle.list.proofs.Laws.{length_inserted, rising_inserted, rising_empty}
 use Rattle.room.specs.declared.register.RegisterEntry.{RegisterEntry}
 use Rattle.room.specs.Sales.{Bytes, Sale}
-use Rattle.file.specs.Contents.{with_lot, with_register, and_then, enrolment, sale_of_items, items_in, sale_in, unknown_sale}
+use Rattle.file.specs.Contents.{Refusal, with_lot, with_register, and_then, enrolment, sale_of_items, sale_or_fault, items_in, sale_in, unknown_sale}
 use Rattle.file.specs.Fields.{holds_comma, field, behind}
 use Rattle.file.specs.Form.{Items, end, broken, item, lot_item, bidder_item, envelope_item, items, Verdict, refused, passed, said, line_must_say, lot_values, variant_of, bidder_values, is_key, verdict_on, after_verdict, at_the_end}
 use Rattle.file.specs.Numbers.{number_of}
+use Rattle.file.specs.steps.Sale.{IsUnbroken}
 use Rattle.file.specs.Theorems.{AcceptedFilesKeepLimits}
 use Rattle.file.specs.Hexadecimal.{written_bytes}
-use Rattle.file.specs.Input.{most_bytes}
-use Rattle.file.specs.Lines.{Lines, finished, torn, line, lines}
-use Rattle.file.specs.declared.faults.FileFault.{FileFault}
+use Rattle.file.specs.Lines.{most_bytes, Lines, finished, torn, line, lines}
 use Rattle.file.specs.declared.faults.FileFault.TheVariants.{TooLong, Form, TermsLength}
 use Rattle.file.specs.declared.line.Section.{Section}
 use Rattle.file.specs.declared.line.Section.TheVariants.{LotNames, LotValues, LotEnd, BidderNames, FirstBidder, Bidders, EnvelopeNames, Envelopes}
@@ -54,10 +53,10 @@ enrolls_by e xs ys false true p q r =
 enrolls : (e : RegisterEntry) (xs ys : List RegisterEntry) → enrolment e xs ≡ Ok ys → Enrolls e xs ys
 enrolls e xs ys r = enrolls_by e xs ys (has_equal order e xs) (ltb (length xs) 64) refl refl r
 
-keeps_on : (n : ℕ) (R : Result (List RegisterEntry) ListFault) (go_on : List RegisterEntry → Result Sale FileFault) (t : Sale) (P : Type 0)
-    → ((ys : List RegisterEntry) → R ≡ Ok ys → go_on ys ≡ Ok t → P) → and_then n R go_on ≡ Ok t → P
-keeps_on n (Ok ys) go_on t P k e = k ys refl e
-keeps_on n (Err f) go_on t P k e = absurd (let z : ◌≡◌ {A = ℕ} 0 1 = cc in omega arith)
+keeps_on : (n : ℕ) (s : Sale) (R : Result (List RegisterEntry) ListFault) (go_on : List RegisterEntry → Result Sale Refusal) (t : Sale) (P : Type 0)
+    → ((ys : List RegisterEntry) → R ≡ Ok ys → go_on ys ≡ Ok t → P) → and_then n s R go_on ≡ Ok t → P
+keeps_on n s (Ok ys) go_on t P k e = k ys refl e
+keeps_on n s (Err f) go_on t P k e = absurd (let z : ◌≡◌ {A = ℕ} 0 1 = cc in omega arith)
 
 gathered_keeps : (is : Items) (s t : Sale) → AllWellFormed is → Within s → sale_of_items s is ≡ Ok t → Within t
 unfolding sale_of_items
@@ -66,7 +65,7 @@ gathered_keeps (broken f) s t w k e = absurd (let z : ◌≡◌ {A = ℕ} 0 1 = 
 gathered_keeps (item (lot_item lot v terms) is) s t w k e =
     gathered_keeps is (with_lot lot v terms s) t w.1 (record { terms = leb-true (length terms) 64 w.0; few = k.few; rising = k.rising }) e
 gathered_keeps (item (bidder_item n b key) is) s t w k e =
-    keeps_on n (enrolment (record { bidder = b; key = written_bytes key }) s.register) (λ register. sale_of_items (with_register register s) is) t (Within t)
+    keeps_on n s (enrolment (record { bidder = b; key = written_bytes key }) s.register) (λ register. sale_of_items (with_register register s) is) t (Within t)
     (λ ys r g. let h = enrolls (record { bidder = b; key = written_bytes key }) s.register ys r in
     gathered_keeps is (with_register ys s) t w.1 (record { terms = k.terms; few = h.few; rising = h.rising k.rising }) g) e
 gathered_keeps (item (envelope_item n d) is) s t w k e = gathered_keeps is s t w.1 k e
@@ -77,7 +76,7 @@ grows end s t e = let q : s ≡ t = cc in omega (arith, ap (λ x. length x.regis
 grows (broken f) s t e = absurd (let z : ◌≡◌ {A = ℕ} 0 1 = cc in omega arith)
 grows (item (lot_item lot v terms) is) s t e = grows is (with_lot lot v terms s) t e
 grows (item (bidder_item n b key) is) s t e =
-    keeps_on n (enrolment (record { bidder = b; key = written_bytes key }) s.register) (λ register. sale_of_items (with_register register s) is) t (length s.register ≤ length t.register)
+    keeps_on n s (enrolment (record { bidder = b; key = written_bytes key }) s.register) (λ register. sale_of_items (with_register register s) is) t (length s.register ≤ length t.register)
     (λ ys r g. let h = enrolls (record { bidder = b; key = written_bytes key }) s.register ys r in let u = grows is (with_register ys s) t g in omega (arith, h.more)) e
 grows (item (envelope_item n d) is) s t e = grows is s t e
 
@@ -129,7 +128,7 @@ after_leads (refused f) go_on s t h ih e = absurd (let z : ◌≡◌ {A = ℕ} 0
 after_leads (passed next) go_on s t h ih e = ih next s h e
 after_leads (said (lot_item lot v terms) next) go_on s t h ih e = ih next (with_lot lot v terms s) h e
 after_leads (said (bidder_item n b key) next) go_on s t h ih e =
-    keeps_on n (enrolment (record { bidder = b; key = written_bytes key }) s.register) (λ register. sale_of_items (with_register register s) (go_on next)) t (1 ≤ length t.register)
+    keeps_on n s (enrolment (record { bidder = b; key = written_bytes key }) s.register) (λ register. sale_of_items (with_register register s) (go_on next)) t (1 ≤ length t.register)
     (λ ys r g. let h = enrolls (record { bidder = b; key = written_bytes key }) s.register ys r in let u = grows (go_on next) (with_register ys s) t g in omega (arith, h.more)) e
 after_leads (said (envelope_item n d) next) go_on s t h ih e = absurd h
 
@@ -151,7 +150,30 @@ some_bidder torn sec n s t h e = absurd (let z : ◌≡◌ {A = ℕ} 0 1 = cc in
 some_bidder (line l ls) sec n s t h e =
     after_leads (verdict_on sec n l) (λ next. items next (n + 1) ls) s t (leads sec n l h) (λ next u k g. some_bidder ls next (n + 1) u t k g) e
 
-said_some : (file : Bytes) (s : Sale) → sale_in file ≡ Ok s → 1 ≤ length s.register
+-- an accepted file is gathered to its end
+gathered_back : (r : Result Sale Refusal) (s : Sale) → sale_or_fault r ≡ Ok s → r ≡ Ok s
+gathered_back (Ok t) s e = let q : t ≡ s = cc in ap Ok q
+gathered_back (Err r) s e = absurd (let z : ◌≡◌ {A = ℕ} 0 1 = cc in omega arith)
+
+pub accepted_gathers : (file : Bytes) (s : Sale) → sale_in file ≡ Ok s → sale_of_items unknown_sale (items_in file) ≡ Ok s
+accepted_gathers file s e = gathered_back (sale_of_items unknown_sale (items_in file)) s e
+
+-- so none of its lines is refused
+gathered_unbroken : (is : Items) (s t : Sale) → sale_of_items s is ≡ Ok t → IsUnbroken is
+unfolding sale_of_items
+gathered_unbroken end s t e = tt
+gathered_unbroken (broken f) s t e = absurd (let z : ◌≡◌ {A = ℕ} 0 1 = cc in omega arith)
+gathered_unbroken (item (lot_item lot v terms) is) s t e = gathered_unbroken is (with_lot lot v terms s) t e
+gathered_unbroken (item (bidder_item n b key) is) s t e =
+    keeps_on n s (enrolment (record { bidder = b; key = written_bytes key }) s.register)
+    (λ register. sale_of_items (with_register register s) is) t (IsUnbroken is)
+    (λ ys r g. gathered_unbroken is (with_register ys s) t g) e
+gathered_unbroken (item (envelope_item n d) is) s t e = gathered_unbroken is s t e
+
+pub accepted_unbroken : (file : Bytes) (s : Sale) → sale_in file ≡ Ok s → IsUnbroken (items_in file)
+accepted_unbroken file s e = gathered_unbroken (items_in file) unknown_sale s (accepted_gathers file s e)
+
+said_some : (file : Bytes) (s : Sale) → sale_of_items unknown_sale (items_in file) ≡ Ok s → 1 ≤ length s.register
 unfolding sale_of_items
 said_some file s =
     cond_both (ltb most_bytes (length file)) (broken TooLong) (items LotNames 1 (lines file)) (λ is. sale_of_items unknown_sale is ≡ Ok s → 1 ≤ length s.register)
@@ -163,5 +185,6 @@ said_well_formed file = cond_both (ltb most_bytes (length file)) (broken TooLong
 -- the sale of a file that is accepted
 pub accepted_keeps_limits : AcceptedFilesKeepLimits
 accepted_keeps_limits file s e =
-    let w = gathered_keeps (items_in file) unknown_sale s (said_well_formed file) (record { terms = omega arith; few = omega arith; rising = rising_empty order }) e in
-    record { terms = w.terms; some = said_some file s e; few = w.few; rising = w.rising }
+    let g = accepted_gathers file s e in
+    let w = gathered_keeps (items_in file) unknown_sale s (said_well_formed file) (record { terms = omega arith; few = omega arith; rising = rising_empty order }) g in
+    record { terms = w.terms; some = said_some file s g; few = w.few; rising = w.rising }

@@ -3,13 +3,12 @@ use Rattle.std.proofs.Common.{◌≡◌, ℕ, ◌<◌, ◌≤◌, cond, List, []
 use Rattle.std.specs.List.{AllByRecursion}
 use Rattle.std.proofs.lemmas.Bool.{le-ltb, lt-ltb}
 use Rattle.room.specs.Sales.{Bytes, Sale}
-use Rattle.file.specs.Contents.{Sent, with_envelopes, sale_of_items, envelopes_in, unknown_sale, items_in, sale_in, contents_in}
+use Rattle.file.specs.Contents.{Sent, Refusal, with_envelopes, sale_of_items, sale_or_fault, envelopes_in, unknown_sale, items_in, sale_in, contents_in}
 use Rattle.file.specs.Faults.{line_of}
 use Rattle.file.specs.Form.{broken, items}
 use Rattle.file.specs.Format.{Particulars, LawfulParticulars, lines_of, text_of}
 use Rattle.file.specs.FormatLaws.{BeginFile, IsRefusedThough, LeavesFormat}
-use Rattle.file.specs.Input.{most_bytes}
-use Rattle.file.specs.Lines.{Lines, line, lines}
+use Rattle.file.specs.Lines.{most_bytes, Lines, line, lines}
 use Rattle.file.specs.declared.faults.FileFault.{FileFault}
 use Rattle.file.specs.declared.faults.FileFault.TheVariants.{TooLong, Form}
 use Rattle.file.specs.declared.line.Section.TheVariants.{LotNames}
@@ -54,9 +53,9 @@ begin_by above more t h k e =
     (r.particulars, r.lawful, (more, sym (same_lines (above ++ more) (lines_of r.particulars) r.are)))
 
 -- and those of a file that is written give a sale
-written_gathers : (p : Particulars) → LawfulParticulars p → (f : FileFault)
-    → sale_of_items unknown_sale (items LotNames 1 (lines_as (lines_of p))) ≡ Err f → ⊥
-written_gathers p h f e =
+written_gathers : (p : Particulars) → LawfulParticulars p → (stop : Refusal)
+    → sale_of_items unknown_sale (items LotNames 1 (lines_as (lines_of p))) ≡ Err stop → ⊥
+written_gathers p h stop e =
     let g : sale_of_items unknown_sale (items LotNames 1 (lines_as (lines_of p))) ≡ Ok (given p h).sale =
     ap (sale_of_items unknown_sale) (lines_said p h) ∙ given_gathered p h in
     let z : ◌≡◌ {A = ℕ} 0 1 = cc in omega arith
@@ -66,9 +65,10 @@ why_by : (f : FileFault) (rest : Bytes) (left : Lines) → lines rest ≡ left �
 why_by f rest left e (inl h) = inl h
 why_by f rest left e (inr (l, ls, q, k)) = let d = first_line rest l ls (e ∙ q) in inr (l, d.behind, d.are, k)
 
-leaves_by : (file : Bytes) (f : FileFault) → sale_of_items unknown_sale (items LotNames 1 (lines file)) ≡ Err f → LeavesFormat file f
-leaves_by file f e =
-    let w = walk (lines file) LotNames 1 unknown_sale f (λ u. refl) e in
+leaves_by : (file : Bytes) (stop : Refusal) → sale_of_items unknown_sale (items LotNames 1 (lines file)) ≡ Err stop
+    → LeavesFormat file stop.fault
+leaves_by file stop e =
+    let w = walk (lines file) LotNames 1 unknown_sale stop (λ u. refl) e in
     let b = behind_lines file w.above w.rest w.are in
     record {
       above = w.above;
@@ -76,12 +76,12 @@ leaves_by file f e =
       are = b.are;
       number = let c = w.count in omega arith;
       begin = begin_by w.above w.more w.sale (clean_onto w.above w.rest (subst NoTens w.are (no_tens file))) w.clean w.completes;
-      why = why_by f b.rest w.rest b.left w.why;
+      why = why_by stop.fault b.rest w.rest b.left w.why;
       breaks = λ l behind q begun.
           let same : lines_of begun.0 ≡ w.above ++ (l ∷ begun.2.0) = begun.2.1 ∙ append_assoc w.above (l ∷ []) begun.2.0 in
           let clean = clean_at w.above l begun.2.0 (subst (AllByRecursion (Without 10)) same (clean_lines begun.0 begun.1)) in
           let next : w.rest ≡ line l (lines behind) = sym b.left ∙ ap lines q ∙ lines-ended l behind clean in
-          written_gathers begun.0 begun.1 f
+          written_gathers begun.0 begun.1 stop
           (ap (λ ls. sale_of_items unknown_sale (items LotNames 1 (lines_as ls))) same ∙ w.stuck l (lines behind) next begun.2.0);
     }
 
@@ -89,14 +89,20 @@ refused_by : (es : List Sent) (r : Result Sale FileFault) (f : FileFault) → wi
 refused_by es (Ok s) f e = absurd (let z : ◌≡◌ {A = ℕ} 0 1 = cc in omega arith)
 refused_by es (Err g) f e = let q : g ≡ f = cc in ap Err q
 
+-- why a sale is refused
+fault_back : (r : Result Sale Refusal) (f : FileFault) → sale_or_fault r ≡ Err f → (stop : Refusal) × (r ≡ Err stop) × (stop.fault ≡ f)
+fault_back (Ok s) f e = absurd (let z : ◌≡◌ {A = ℕ} 0 1 = cc in omega arith)
+fault_back (Err stop) f e = (stop, refl, cc)
+
 pub leaves : (file : Bytes) (f : FileFault) → length file ≤ most_bytes → contents_in file ≡ Err f → LeavesFormat file f
 leaves file f l e =
     let said : items_in file ≡ items LotNames 1 (lines file) =
     ap (λ t. cond t (broken TooLong) (items LotNames 1 (lines file))) (le-ltb most_bytes (length file) l) in
-    leaves_by file f (sym (ap (sale_of_items unknown_sale) said) ∙ refused_by (envelopes_in (items_in file)) (sale_in file) f e)
+    let back = fault_back (sale_of_items unknown_sale (items_in file)) f (refused_by (envelopes_in (items_in file)) (sale_in file) f e) in
+    subst (λ g. LeavesFormat file g) back.2 (leaves_by file back.0 (sym (ap (sale_of_items unknown_sale) said) ∙ back.1))
 
 pub too_long : (file : Bytes) → most_bytes < length file → contents_in file ≡ Err TooLong
 unfolding sale_of_items
 too_long file l =
-    ap (λ t. with_envelopes (envelopes_in (cond t (broken TooLong) (items LotNames 1 (lines file)))) (sale_of_items unknown_sale (cond t (broken TooLong) (items LotNames 1 (lines file)))))
+    ap (λ t. with_envelopes (envelopes_in (cond t (broken TooLong) (items LotNames 1 (lines file)))) (sale_or_fault (sale_of_items unknown_sale (cond t (broken TooLong) (items LotNames 1 (lines file))))))
     (lt-ltb most_bytes (length file) l)

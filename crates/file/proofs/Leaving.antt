@@ -8,7 +8,7 @@ use Rattle.list.specs.Insertion.{has_equal, list_with, count_ahead}
 use Rattle.list.specs.declared.faults.ListFault.{ListFault}
 use Rattle.room.specs.Sales.{Bytes, Sale}
 use Rattle.room.specs.declared.register.RegisterEntry.{RegisterEntry}
-use Rattle.file.specs.Contents.{with_lot, with_register, and_then, enrolment, sale_of_items}
+use Rattle.file.specs.Contents.{Refusal, with_lot, with_register, and_then, enrolment, sale_of_items}
 use Rattle.file.specs.Faults.{line_of}
 use Rattle.file.specs.Fields.{place_of, holds_comma, field, behind}
 use Rattle.file.specs.Form.{Items, lot_item, bidder_item, envelope_item, variant_of, lot_values, is_key, bidder_values, bidder_line_item, is_envelope, Verdict, passed, refused, said, line_must_be, line_must_say, verdict_on, after_verdict, at_the_end, items}
@@ -184,23 +184,24 @@ why_form : (n : ℕ) (f : FileFault) (rest : Lines) → Form n ≡ f → Why f r
 why_form n f rest e = inl (subst (λ x. x ≡ Form (line_of x)) e refl)
 
 -- where reading stops: the lines above can be gone on with to the end of a file, and whatever follows the line that is refused, it is refused
-pub record LeftAt (sec : Section) (n : ℕ) (s : Sale) (ls : Lines) (f : FileFault) : Type 0 where
+pub record LeftAt (sec : Section) (n : ℕ) (s : Sale) (ls : Lines) (stop : Refusal) : Type 0 where
   pub above : List Bytes
   pub rest : Lines
   pub are : ls ≡ onto above rest
-  pub count : line_of f ≡ n + length above
+  pub count : line_of stop.fault ≡ n + length above
   pub more : List Bytes
   pub clean : AllByRecursion (Without 10) more
   pub sale : Sale
-  pub why : Why f rest
+  pub why : Why stop.fault rest
   pub completes : sale_of_items s (items sec n (lines_as (above ++ more))) ≡ Ok sale
   pub stuck : (l : Bytes) (ls' : Lines) → rest ≡ line l ls' → (m : List Bytes)
-      → sale_of_items s (items sec n (lines_as (above ++ (l ∷ m)))) ≡ Err f
+      → sale_of_items s (items sec n (lines_as (above ++ (l ∷ m)))) ≡ Err stop
 
-stops_here : (sec : Section) (n : ℕ) (s : Sale) (ls : Lines) (f : FileFault) → (Early sec → s.register ≡ []) → line_of f ≡ n → Why f ls
-    → ((l : Bytes) (ls' : Lines) → ls ≡ line l ls' → (m : List Bytes) → sale_of_items s (items sec n (lines_as (l ∷ m))) ≡ Err f)
-    → LeftAt sec n s ls f
-stops_here sec n s ls f h at why stuck =
+stops_here : (sec : Section) (n : ℕ) (s : Sale) (ls : Lines) (stop : Refusal) → (Early sec → s.register ≡ []) → line_of stop.fault ≡ n
+    → Why stop.fault ls
+    → ((l : Bytes) (ls' : Lines) → ls ≡ line l ls' → (m : List Bytes) → sale_of_items s (items sec n (lines_as (l ∷ m))) ≡ Err stop)
+    → LeftAt sec n s ls stop
+stops_here sec n s ls stop h at why stuck =
     let c = closes sec n s h in
     record {
       above = [];
@@ -215,11 +216,11 @@ stops_here sec n s ls f h at why stuck =
       stuck = stuck;
     }
 
-goes_on : (sec next : Section) (n : ℕ) (s u : Sale) (l : Bytes) (ls : Lines) (f : FileFault)
+goes_on : (sec next : Section) (n : ℕ) (s u : Sale) (l : Bytes) (ls : Lines) (stop : Refusal)
     → ((go_on : Section → Items) → sale_of_items s (after_verdict (verdict_on sec n l) go_on) ≡ sale_of_items u (go_on next))
-    → LeftAt next (n + 1) u ls f → LeftAt sec n s (line l ls) f
+    → LeftAt next (n + 1) u ls stop → LeftAt sec n s (line l ls) stop
 unfolding items
-goes_on sec next n s u l ls f carry k = record {
+goes_on sec next n s u l ls stop carry k = record {
   above = l ∷ k.above;
   rest = k.rest;
   are = ap (line l) k.are;
@@ -232,15 +233,15 @@ goes_on sec next n s u l ls f carry k = record {
   stuck = λ l' ls' e m. carry (λ next. items next (n + 1) (lines_as (k.above ++ (l' ∷ m)))) ∙ k.stuck l' ls' e m;
 }
 
-module _ (sec : Section) (n : ℕ) (l : Bytes) (ls : Lines) (s : Sale) (f : FileFault) (early : Early sec → s.register ≡ [])
-    (ih : (next : Section) (u : Sale) → (Early next → u.register ≡ []) → sale_of_items u (items next (n + 1) ls) ≡ Err f → LeftAt next (n + 1) u ls f) where
+module _ (sec : Section) (n : ℕ) (l : Bytes) (ls : Lines) (s : Sale) (stop : Refusal) (early : Early sec → s.register ≡ [])
+    (ih : (next : Section) (u : Sale) → (Early next → u.register ≡ []) → sale_of_items u (items next (n + 1) ls) ≡ Err stop → LeftAt next (n + 1) u ls stop) where
   -- a line that is refused, whatever comes behind it
-  refused_here : (v : Verdict) → verdict_on sec n l ≡ v → line_of f ≡ n → Told f l
-      → ((go_on : Section → Items) → sale_of_items s (after_verdict v go_on) ≡ Err f)
-      → LeftAt sec n s (line l ls) f
+  refused_here : (v : Verdict) → verdict_on sec n l ≡ v → line_of stop.fault ≡ n → Told stop.fault l
+      → ((go_on : Section → Items) → sale_of_items s (after_verdict v go_on) ≡ Err stop)
+      → LeftAt sec n s (line l ls) stop
   unfolding items
   refused_here v j at told stays =
-      stops_here sec n s (line l ls) f early at (why_here f l ls told)
+      stops_here sec n s (line l ls) stop early at (why_here stop.fault l ls told)
       (λ l' ls' e m.
       let same : l ≡ l' = cc in
       let go_on : Section → Items = λ next. items next (n + 1) (lines_as m) in
@@ -249,57 +250,59 @@ module _ (sec : Section) (n : ℕ) (l : Bytes) (ls : Lines) (s : Sale) (f : File
   bidder_walk : (m b : ℕ) (key : Bytes) (next : Section) (r : Result (List RegisterEntry) ListFault)
       → verdict_on sec n l ≡ said (bidder_item m b key) next → m ≡ n → (Early next → ⊥) → IsBidderLine l
       → enrolment (record { bidder = b; key = written_bytes key }) s.register ≡ r
-      → and_then m r (λ register. sale_of_items (with_register register s) (items next (n + 1) ls)) ≡ Err f → LeftAt sec n s (line l ls) f
+      → and_then m s r (λ register. sale_of_items (with_register register s) (items next (n + 1) ls)) ≡ Err stop
+      → LeftAt sec n s (line l ls) stop
   unfolding sale_of_items
   bidder_walk m b key next (Ok ys) j at late is e g =
-      goes_on sec next n s (with_register ys s) l ls f
+      goes_on sec next n s (with_register ys s) l ls stop
       (λ go_on. ap (λ v. sale_of_items s (after_verdict v go_on)) j
-      ∙ ap (λ r. and_then m r (λ register. sale_of_items (with_register register s) (go_on next))) e)
+      ∙ ap (λ r. and_then m s r (λ register. sale_of_items (with_register register s) (go_on next))) e)
       (ih next (with_register ys s) (λ x. absurd (late x)) g)
   bidder_walk m b key next (Err w) j at late is e g =
-      let q : ByList m w ≡ f = cc in
-      refused_here (said (bidder_item m b key) next) j (ap line_of (sym q) ∙ at) (subst (λ x. Told x l) q (inr is))
-      (λ go_on. ap (λ r. and_then m r (λ register. sale_of_items (with_register register s) (go_on next))) e ∙ ap Err q)
+      let q : record { fault = ByList m w; before = s } ≡ stop = cc in
+      refused_here (said (bidder_item m b key) next) j (ap (λ x. line_of x.fault) (sym q) ∙ at) (subst (λ x. Told x.fault l) q (inr is))
+      (λ go_on. ap (λ r. and_then m s r (λ register. sale_of_items (with_register register s) (go_on next))) e ∙ ap Err q)
 
-  walk_by : (v : Verdict) → verdict_on sec n l ≡ v → Onward sec n l v → sale_of_items s (after_verdict v (λ next. items next (n + 1) ls)) ≡ Err f
-      → LeftAt sec n s (line l ls) f
+  walk_by : (v : Verdict) → verdict_on sec n l ≡ v → Onward sec n l v → sale_of_items s (after_verdict v (λ next. items next (n + 1) ls)) ≡ Err stop
+      → LeftAt sec n s (line l ls) stop
   unfolding sale_of_items
   walk_by (refused g) j o e =
-      let q : g ≡ f = cc in
-      refused_here (refused g) j (ap line_of (sym q) ∙ o.0) (subst (λ x. Told x l) q o.1) (λ go_on. ap Err q)
+      let q : record { fault = g; before = s } ≡ stop = cc in
+      refused_here (refused g) j (ap (λ x. line_of x.fault) (sym q) ∙ o.0) (subst (λ x. Told x.fault l) q o.1) (λ go_on. ap Err q)
   walk_by (passed next) j o e =
-      goes_on sec next n s s l ls f (λ go_on. ap (λ v. sale_of_items s (after_verdict v go_on)) j) (ih next s (λ x. early (o x)) e)
+      goes_on sec next n s s l ls stop (λ go_on. ap (λ v. sale_of_items s (after_verdict v go_on)) j) (ih next s (λ x. early (o x)) e)
   walk_by (said (lot_item lot v terms) next) j o e =
-      goes_on sec next n s (with_lot lot v terms s) l ls f (λ go_on. ap (λ v. sale_of_items s (after_verdict v go_on)) j)
+      goes_on sec next n s (with_lot lot v terms s) l ls stop (λ go_on. ap (λ v. sale_of_items s (after_verdict v go_on)) j)
       (ih next (with_lot lot v terms s) (λ x. early (o x)) e)
   walk_by (said (bidder_item m b key) next) j o e =
       bidder_walk m b key next (enrolment (record { bidder = b; key = written_bytes key }) s.register) j o.0 o.1 o.2 refl e
   walk_by (said (envelope_item m ds) next) j o e =
-      goes_on sec next n s s l ls f (λ go_on. ap (λ v. sale_of_items s (after_verdict v go_on)) j) (ih next s (λ x. absurd (o x)) e)
+      goes_on sec next n s s l ls stop (λ go_on. ap (λ v. sale_of_items s (after_verdict v go_on)) j) (ih next s (λ x. absurd (o x)) e)
 
 -- at the end of a file a line is missing
-ended : (sec : Section) (n : ℕ) (s : Sale) (f : FileFault) → sale_of_items s (at_the_end sec n) ≡ Err f → Form n ≡ f
+ended : (sec : Section) (n : ℕ) (s : Sale) (stop : Refusal) → sale_of_items s (at_the_end sec n) ≡ Err stop
+    → record { fault = Form n; before = s } ≡ stop
 unfolding sale_of_items
-ended LotNames n s f e = cc
-ended LotValues n s f e = cc
-ended LotEnd n s f e = cc
-ended BidderNames n s f e = cc
-ended FirstBidder n s f e = cc
-ended Bidders n s f e = cc
-ended EnvelopeNames n s f e = cc
-ended Envelopes n s f e = absurd (let z : ◌≡◌ {A = ℕ} 0 1 = cc in omega arith)
+ended LotNames n s stop e = cc
+ended LotValues n s stop e = cc
+ended LotEnd n s stop e = cc
+ended BidderNames n s stop e = cc
+ended FirstBidder n s stop e = cc
+ended Bidders n s stop e = cc
+ended EnvelopeNames n s stop e = cc
+ended Envelopes n s stop e = absurd (let z : ◌≡◌ {A = ℕ} 0 1 = cc in omega arith)
 
-pub walk : (ls : Lines) (sec : Section) (n : ℕ) (s : Sale) (f : FileFault) → (Early sec → s.register ≡ [])
-    → sale_of_items s (items sec n ls) ≡ Err f
-    → LeftAt sec n s ls f
+pub walk : (ls : Lines) (sec : Section) (n : ℕ) (s : Sale) (stop : Refusal) → (Early sec → s.register ≡ [])
+    → sale_of_items s (items sec n ls) ≡ Err stop
+    → LeftAt sec n s ls stop
 unfolding sale_of_items items
-walk finished sec n s f early e =
-    let q : Form n ≡ f = ended sec n s f e in
-    stops_here sec n s finished f early (ap line_of (sym q)) (why_form n f finished q)
+walk finished sec n s stop early e =
+    let q : record { fault = Form n; before = s } ≡ stop = ended sec n s stop e in
+    stops_here sec n s finished stop early (ap (λ x. line_of x.fault) (sym q)) (why_form n stop.fault finished (ap (λ x. x.fault) q))
     (λ l ls' p m. absurd (let z : ◌≡◌ {A = ℕ} 0 1 = cc in omega arith))
-walk torn sec n s f early e =
-    let q : Form n ≡ f = cc in
-    stops_here sec n s torn f early (ap line_of (sym q)) (why_form n f torn q)
+walk torn sec n s stop early e =
+    let q : record { fault = Form n; before = s } ≡ stop = cc in
+    stops_here sec n s torn stop early (ap (λ x. line_of x.fault) (sym q)) (why_form n stop.fault torn (ap (λ x. x.fault) q))
     (λ l ls' p m. absurd (let z : ◌≡◌ {A = ℕ} 0 1 = cc in omega arith))
-walk (line l ls) sec n s f early e =
-    walk_by sec n l ls s f early (λ next u k g. walk ls next (n + 1) u f k g) (verdict_on sec n l) refl (onward sec n l) e
+walk (line l ls) sec n s stop early e =
+    walk_by sec n l ls s stop early (λ next u k g. walk ls next (n + 1) u stop k g) (verdict_on sec n l) refl (onward sec n l) e

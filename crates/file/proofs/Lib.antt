@@ -1,24 +1,24 @@
-pub mod Alike
-pub mod Cuts
-pub mod Filled
-pub mod Lawful
-pub mod Pages
-pub mod Pairs
-pub mod Registers
-pub mod Reports
-pub mod Sound
-pub mod Takes
-pub mod Through
-pub mod Digits
-pub mod Held
-pub mod Texts
-pub mod Commas
-pub mod Decimals
-pub mod HexTexts
-pub mod LineTexts
-pub mod Enrolments
-pub mod FormatItems
-pub mod FormatBack
-pub mod FormatLaws
-pub mod Leaving
-pub mod Leaves
+mod Alike
+mod Cuts
+mod Filled
+mod Lawful
+mod Pages
+mod Pairs
+mod Registers
+mod Reports
+mod Sound
+mod Takes
+mod Through
+mod Digits
+mod Held
+mod Texts
+mod Commas
+mod Decimals
+mod HexTexts
+mod LineTexts
+mod Enrolments
+mod FormatItems
+mod FormatBack
+mod FormatLaws
+mod Leaving
+mod Leaves

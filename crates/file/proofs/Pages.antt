@@ -1,5 +1,5 @@
 -- The page of a file is that of each room in which its sale was held, and two files of one sale with the same envelopes have one page.
-use Rattle.std.proofs.Common.{◌≡◌, ◌↔◌, List, [], ◌∷◌, ◌++◌, map, Ok, Err, Result, ℕ, true, sym, refl, ap, ◌∙◌, subst, ap₂, arith}
+use Rattle.std.proofs.Common.{◌≡◌, ◌↔◌, List, [], ◌∷◌, ◌++◌, map, Ok, Err, Result, ℕ, true, sym, refl, ap, ◌∙◌, ap₂, arith}
 use Rattle.fault.specs.Checks.{decision, by_answer}
 use Rattle.room.specs.Calls.{LodgingOf, Closing, Answer, is_open, answer_to, room_after, with_holdings, closed_room, page_of_room}
 use Rattle.room.specs.Rooms.{Holding, Contents as Room, contents_of}
@@ -12,7 +12,7 @@ use Rattle.room.specs.declared.slots.Phase.TheVariants.{Open as PhaseOpen, Close
 use Rattle.room.proofs.HistoryLaws.{after_all, room_left}
 use Rattle.room.proofs.PageLaws.{prints_exactly, page_of_same_lodgings}
 use Rattle.file.specs.Contents.{Sent, FileContents, with_envelopes, envelopes_in, items_in, sale_in, contents_in}
-use Rattle.file.specs.Holding.{lodgings_of, calls_in, HeldIn}
+use Rattle.file.specs.Sale.{lodgings_of, calls_in, HeldIn}
 use Rattle.file.specs.Report.{lodging_of, room_of_sale, room_after_all, page_in}
 use Rattle.file.specs.Theorems.{LawsOfPages}
 use Rattle.file.specs.declared.faults.FileFault.{FileFault}

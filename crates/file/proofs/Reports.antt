@@ -1,11 +1,10 @@
 -- The report of what a reader had left.
 use Rattle.std.proofs.Common.{◌≡◌, ◌+◌, take, Some, None, Ok, Err, Option, Result, IfSome, IfOk, MatchResult, refl, subst}
 use Rattle.room.specs.Sales.{Bytes}
-use Rattle.file.specs.Holding.{Tells}
-use Rattle.file.specs.Input.{most_bytes}
-use Rattle.file.specs.Selling.{TellsOf}
-use Rattle.file.specs.declared.reporting.Report.{Report}
-use Rattle.file.specs.declared.selling.SaleError.{SaleError}
+use Rattle.file.specs.Sale.{Tells, TellsOf}
+use Rattle.file.specs.Lines.{most_bytes}
+use Rattle.file.specs.declared.report.Report.{Report}
+use Rattle.file.specs.declared.report.SaleError.{SaleError}
 use Rattle.file.proofs.Alike.{tells_of_whole}
 
 -- what holds of a value that is answered holds of it once the errors were made the sale's

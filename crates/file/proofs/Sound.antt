@@ -7,8 +7,8 @@ use Rattle.file.specs.Lines.{Lines, finished, torn, line, lines}
 use Rattle.file.specs.Fields.{holds_comma, field, behind}
 use Rattle.file.specs.Numbers.{number_of}
 use Rattle.file.specs.Form.{Item, lot_item, bidder_item, envelope_item, variant_of, lot_values, is_key, bidder_values, bidder_line_item, is_envelope, envelope_line_item, Verdict, refused, passed, said, line_must_be, line_must_say, verdict_on, Items, end, broken, item, after_verdict, at_the_end, items}
-use Rattle.file.specs.Said.{WellFormed}
-use Rattle.file.specs.Read.{items_left, items_if, first_of, rest_of}
+use Rattle.file.specs.steps.Line.{WellFormed}
+use Rattle.file.specs.Reader.{items_left, items_if, first_of, rest_of}
 use Rattle.file.specs.declared.faults.FileFault.{FileFault}
 use Rattle.file.specs.declared.faults.FileFault.TheVariants.{Form, TermsLength}
 use Rattle.file.specs.declared.reader.Reader.{Reader}

@@ -4,13 +4,14 @@ use Rattle.std.proofs.lemmas.List.{drop-drop}
 use Rattle.std.specs.Result.{result_transpose}
 use Rattle.list.specs.declared.faults.ListFault.{ListFault}
 use Rattle.room.specs.Sales.{Sale}
-use Rattle.file.specs.Contents.{with_register, and_then, or_stop, sale_of_items, bidders_enrolled}
-use Rattle.file.specs.Enrolling.{enrolling_answer, register_after, goes_on, enrols_on, KeepsRest}
+use Rattle.file.specs.Contents.{with_register, and_then, sale_of_items}
+use Rattle.file.specs.steps.Contents.{enrolling_answer, register_after, goes_on, KeepsRest}
 use Rattle.file.specs.Form.{Item, Items, end, broken, item}
 use Rattle.file.specs.Hexadecimal.{written_bytes}
-use Rattle.file.specs.Read.{given_item, first_of, rest_of}
+use Rattle.file.specs.Reader.{given_item, first_of, rest_of}
 use Rattle.file.specs.declared.faults.FileFault.{FileFault}
-use Rattle.file.specs.declared.gathering.Gathering.{Gathering}
+use Rattle.file.specs.declared.faults.FileFault.TheVariants.{List as ByList}
+use Rattle.file.specs.declared.contents.Gathering.{Gathering}
 use Rattle.file.specs.declared.line.Line.{Line}
 use Rattle.room.specs.declared.register.RegisterEntry.{RegisterEntry}
 use Rattle.file.proofs.Sound.{first_then, first_broken, first_ended}
@@ -21,15 +22,9 @@ bidder_of b key = record { bidder = b; key = written_bytes key }
 -- a bidder that is enrolled, or refused
 pub bidder_gathers : (n : ℕ) (R : Result (List RegisterEntry) ListFault) (s t : Sale) (r : Result (Unit {0}) FileFault)
     → r ≡ enrolling_answer n R → t ≡ with_register (register_after R s.register) s → (is : Items)
-    → and_then n R (λ register. sale_of_items (with_register register s) is) ≡ goes_on r t is
+    → and_then n s R (λ register. sale_of_items (with_register register s) is) ≡ goes_on r t is
 bidder_gathers n (Ok register) s t r a e is = rw a (rw e refl)
-bidder_gathers n (Err f) s t r a e is = rw a refl
-
-pub bidder_enrols : (n : ℕ) (R : Result (List RegisterEntry) ListFault) (s t : Sale) (r : Result (Unit {0}) FileFault)
-    → r ≡ enrolling_answer n R → t ≡ with_register (register_after R s.register) s → (is : Items)
-    → or_stop R s.register (λ register. bidders_enrolled register is) ≡ enrols_on r t.register is
-bidder_enrols n (Ok register) s t r a e is = rw a (rw e refl)
-bidder_enrols n (Err f) s t r a e is = rw a (sym (ap (λ x. x.register) e))
+bidder_gathers n (Err f) s t r a e is = rw a (ap (λ u. Err (record { fault = ByList n f; before = u })) (sym e))
 
 -- what reading answered is the first of what was left
 pub gave : (r o : Result (Option Line) FileFault) (f : Option (Result Item FileFault)) → r ≡ o → given_item (result_transpose r) ≡ f → given_item (result_transpose o) ≡ f

@@ -2,7 +2,7 @@
 use Rattle.std.proofs.Common.{◌≡◌, ℕ, List, [], ◌∷◌, ◌++◌, map, Some, None, Ok, Err, sym, refl, ap, ◌∙◌, subst, Bor}
 use Rattle.room.proofs.HistoryLaws.{runs_on}
 use Rattle.room.specs.declared.state.RoomState.{RoomState}
-use Rattle.file.specs.Read.{first_of, rest_of}
+use Rattle.file.specs.Reader.{first_of, rest_of, item_of}
 use Rattle.file.proofs.Sound.{first_then, first_broken, first_ended}
 use Rattle.file.specs.declared.faults.FileFault.{FileFault}
 use Rattle.std.proofs.lemmas.List.{append_assoc}
@@ -12,11 +12,10 @@ use Rattle.room.specs.Calls.{LodgingOf, answer_to, room_after}
 use Rattle.room.specs.Runs.{Meeting, met_with, none, more, calls_of}
 use Rattle.room.specs.Sales.{Bytes}
 use Rattle.file.specs.Contents.{Sent, envelopes_in}
-use Rattle.file.specs.Form.{Item, Items, item}
+use Rattle.file.specs.Form.{Item, Items, end, broken, item}
 use Rattle.file.specs.Hexadecimal.{written_bytes}
 use Rattle.file.specs.Report.{two_values, answer_number, answer_lines, room_after_all}
-use Rattle.file.specs.Said.{item_of}
-use Rattle.file.specs.Stepwise.{lodging_call, LodgesOne, GoesThrough}
+use Rattle.file.specs.steps.Sale.{IsUnbroken, lodging_call, LodgesOne, GoesThrough}
 use Rattle.file.specs.declared.line.Line.{Line}
 use Rattle.file.specs.declared.line.Line.TheVariants.{Lot, Bidder, Envelope}
 
@@ -89,11 +88,16 @@ module _ (v : Variant) where
   pub through_all : (out out' : Bytes) (s s' : RoomState) (es : List Sent) (L : Items) → envelopes_in L ≡ [] → GoesThrough v out s es out' s' (envelopes_in L) → GoesThrough v out s es out' s' []
   through_all out out' s s' es L e a = subst (λ (z : List Sent). GoesThrough v out s es out' s' z) e a
 
--- no envelope is left at the end, nor where a line is refused
+-- no envelope is left at the end
 pub ended_left : (L : Items) → None ≡ first_of L → envelopes_in L ≡ []
 unfolding envelopes_in
 ended_left L e = ap envelopes_in (first_ended L e)
 
-pub broken_left : (L : Items) (f : FileFault) → Some (Err f) ≡ first_of L → envelopes_in L ≡ []
-unfolding envelopes_in
-broken_left L f e = ap envelopes_in (first_broken L f e)
+-- where no line is refused, none is behind the first, and reading refuses none
+pub unbroken_rest : (L : Items) → IsUnbroken L → IsUnbroken (rest_of L)
+unbroken_rest end u = u
+unbroken_rest (broken f) u = u
+unbroken_rest (item i is) u = u
+
+pub never_refused : (L : Items) (f : FileFault) → Some (Err f) ≡ first_of L → IsUnbroken L → ⊥
+never_refused L f e u = subst IsUnbroken (first_broken L f e) u

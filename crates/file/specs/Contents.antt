@@ -1,15 +1,15 @@
 -- The contents of a sale file: its lot, variant and terms, its register by rising bidder, and its envelopes with their lines.
-use Rattle.std.specs.Prelude.{ℕ, if◌then◌else◌, List, [], ◌∷◌, length, Ok, Err, Result, nat_lt}
+use Rattle.std.specs.Prelude.{ℕ, if◌then◌else◌, List, [], ◌∷◌, length, take, Ok, Err, Result, nat_lt}
 use Rattle.engine.specs.declared.variants.Variant.{Variant}
 use Rattle.engine.specs.declared.variants.Variant.TheVariants.{Dumbo}
 use Rattle.list.specs.Insertion.{has_equal, list_with}
 use Rattle.list.specs.Order.{by_key}
 use Rattle.list.specs.declared.faults.ListFault.{ListFault}
 use Rattle.list.specs.declared.faults.ListFault.TheVariants.{EqualEntry, Full}
-use Rattle.file.specs.Input.{most_bytes}
-use Rattle.file.specs.Lines.{lines}
+use Rattle.file.specs.Lines.{most_bytes, lines}
 use Rattle.file.specs.Hexadecimal.{written_bytes}
 use Rattle.file.specs.Form.{Items, end, broken, item, lot_item, bidder_item, envelope_item, items}
+use Rattle.file.specs.declared.contents.Gathered.{Gathered}
 use Rattle.file.specs.declared.faults.FileFault.{FileFault}
 use Rattle.file.specs.declared.faults.FileFault.TheVariants.{TooLong, List as ByList}
 use Rattle.file.specs.declared.line.Section.TheVariants.{LotNames}
@@ -40,19 +40,35 @@ with_lot lot variant terms s = record { variant = variant; lot = lot; terms = te
 abbrev pub with_register : List RegisterEntry → Sale → Sale
 with_register register s = record { variant = s.variant; lot = s.lot; terms = s.terms; register = register }
 
--- What comes of line n's bidder: the register goes on, or the list's fault refuses the line.
-abbrev pub and_then : ℕ → Result (List RegisterEntry) ListFault → (List RegisterEntry → Result Sale FileFault) → Result Sale FileFault
-and_then n (Ok register) go_on = go_on register
-and_then n (Err f) go_on = Err (ByList n f)
+-- Where a file is refused: why, and the sale that was gathered before.
+pub record Refusal : Type 0 where
+  pub fault : FileFault
+  pub before : Sale
 
--- The sale that a file's lines say, gathered line by line: s is what was gathered so far.
-unfoldable pub sale_of_items : Sale → Items → Result Sale FileFault
+-- What comes of line n's bidder, s being the sale before it: the register goes on, or the list's fault refuses the line.
+abbrev pub and_then : ℕ → Sale → Result (List RegisterEntry) ListFault → (List RegisterEntry → Result Sale Refusal)
+    → Result Sale Refusal
+and_then n s (Ok register) go_on = go_on register
+and_then n s (Err f) go_on = Err (record { fault = ByList n f; before = s })
+
+-- The sale that a file's lines say, gathered line by line up to the end or to a line that is refused: s is what was gathered so far.
+unfoldable pub sale_of_items : Sale → Items → Result Sale Refusal
 sale_of_items s end = Ok s
-sale_of_items s (broken f) = Err f
+sale_of_items s (broken f) = Err (record { fault = f; before = s })
 sale_of_items s (item (lot_item lot variant terms) is) = sale_of_items (with_lot lot variant terms s) is
 sale_of_items s (item (bidder_item n bidder key) is) =
-    and_then n (enrolment (record { bidder = bidder; key = written_bytes key }) s.register) (λ register. sale_of_items (with_register register s) is)
+    and_then n s (enrolment (record { bidder = bidder; key = written_bytes key }) s.register)
+    (λ register. sale_of_items (with_register register s) is)
 sale_of_items s (item (envelope_item n digits) is) = sale_of_items s is
+
+-- What was gathered, read in two ways: the sale or why there is none; and the sale as far as it was gathered.
+abbrev pub sale_or_fault : Result Sale Refusal → Result Sale FileFault
+sale_or_fault (Ok s) = Ok s
+sale_or_fault (Err r) = Err r.fault
+
+abbrev pub sale_left : Result Sale Refusal → Sale
+sale_left (Ok s) = s
+sale_left (Err r) = r.before
 
 -- The envelopes that a file's lines say.
 unfoldable pub envelopes_in : Items → List Sent
@@ -72,7 +88,11 @@ unknown_sale = record { variant = Dumbo; lot = 0; terms = []; register = [] }
 
 -- The sale of a file, or the fault of the first line that breaks a rule.
 abbrev pub sale_in : Bytes → Result Sale FileFault
-sale_in file = sale_of_items unknown_sale (items_in file)
+sale_in file = sale_or_fault (sale_of_items unknown_sale (items_in file))
+
+-- The bidders enrolled up to the file's end, or up to the line that is refused.
+abbrev pub bidders_in : Bytes → List RegisterEntry
+bidders_in file = (sale_left (sale_of_items unknown_sale (items_in file))).register
 
 -- A sale with the file's envelopes.
 abbrev pub with_envelopes : List Sent → Result Sale FileFault → Result FileContents FileFault
@@ -83,15 +103,11 @@ with_envelopes es (Err f) = Err f
 abbrev pub contents_in : Bytes → Result FileContents FileFault
 contents_in file = with_envelopes (envelopes_in (items_in file)) (sale_in file)
 
--- Enrolling goes on with the new register, or stops at the bidders xs so far.
-abbrev pub or_stop : Result (List RegisterEntry) ListFault → List RegisterEntry → (List RegisterEntry → List RegisterEntry) → List RegisterEntry
-or_stop (Ok register) xs go_on = go_on register
-or_stop (Err f) xs go_on = xs
+-- The sale that was gathered, with its register.
+abbrev pub sale_of : Gathered → List RegisterEntry → Sale
+sale_of g register = record { variant = g.variant; lot = g.lot; terms = g.terms.now; register = register }
 
--- The bidders enrolled up to the file's end, or up to the line that is refused: xs are those so far.
-unfoldable pub bidders_enrolled : List RegisterEntry → Items → List RegisterEntry
-bidders_enrolled xs end = xs
-bidders_enrolled xs (broken f) = xs
-bidders_enrolled xs (item (lot_item lot variant terms) is) = bidders_enrolled xs is
-bidders_enrolled xs (item (bidder_item n bidder key) is) = or_stop (enrolment (record { bidder = bidder; key = written_bytes key }) xs) xs (λ register. bidders_enrolled register is)
-bidders_enrolled xs (item (envelope_item n digits) is) = bidders_enrolled xs is
+-- The same, the register being in the first of the places.
+abbrev pub sale_by : Result Gathered FileFault → List RegisterEntry → Result Sale FileFault
+sale_by (Ok g) places = Ok (sale_of g (take g.count places))
+sale_by (Err f) places = Err f

@@ -7,7 +7,7 @@ use Rattle.room.specs.declared.register.RegisterEntry.{RegisterEntry}
 use Rattle.file.specs.Contents.{Sent, FileContents, contents_in}
 use Rattle.file.specs.Faults.{line_of}
 use Rattle.file.specs.Format.{Particulars, LawfulParticulars, LawfulBidder, lot_line, bidder_line, lines_of, text_of, file_of}
-use Rattle.file.specs.Input.{most_bytes}
+use Rattle.file.specs.Lines.{most_bytes}
 use Rattle.file.specs.declared.faults.FileFault.{FileFault}
 use Rattle.file.specs.declared.faults.FileFault.TheVariants.{TooLong, Form, TermsLength, List as ByList, Cipher, Room}
 
@@ -40,7 +40,8 @@ abbrev pub BeginFile : List Bytes → Type 0
 BeginFile ls =
     (p : Particulars) × LawfulParticulars p × ((more : List Bytes) × (lines_of p ≡ ls ++ more))
 
--- A line has the form of what it says, and is refused for what it says: the lot's for terms that are too long, a bidder's by the list.
+-- A line is a lot's or a bidder's as a writer writes it, and still is refused: the lot's for terms of more than 64 bytes, a bidder's by
+-- the list.
 abbrev pub IsRefusedThough : FileFault → Bytes → Type 0
 IsRefusedThough TooLong l = ⊥
 IsRefusedThough (Form n) l = ⊥
@@ -51,8 +52,9 @@ IsRefusedThough (ByList n cause) l = (e : RegisterEntry) × LawfulBidder e × (l
 IsRefusedThough (Cipher cause) l = ⊥
 IsRefusedThough (Room cause) l = ⊥
 
--- A fault tells where a file leaves the format: the lines above that line begin a file, and with it they do not, or it is missing or not ended.
--- It is a fault of the form, unless the line has its form.
+-- A fault tells the line in which a file leaves the format. `above` are the lines above it, and `rest` is the file from it on. The lines
+-- above begin a file that can be written; with the next one, where there is one that is ended, they do not. The fault is that of the
+-- form, or else the line has its form.
 pub record LeavesFormat (file : Bytes) (f : FileFault) : Type 0 where
   pub above : List Bytes
   pub rest : Bytes

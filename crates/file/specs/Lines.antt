@@ -1,6 +1,10 @@
--- A file as lines, each ended by byte 10.
+-- A file as lines, each ended by byte 10, and how many bytes it may have.
 use Rattle.std.specs.Prelude.{ℕ, if◌then◌else◌, [], ◌∷◌, ◌==◌}
 use Rattle.room.specs.Sales.{Bytes}
+
+-- The most bytes that a sale file may have.
+abbrev pub most_bytes : ℕ
+most_bytes = 32768
 
 -- The lines of a file: there are no more, or what is left is not ended by byte 10, or a line (without its byte 10) and those behind it.
 pub data Lines : Type 0 where

@@ -1,7 +1,12 @@
 -- What reading into a buffer and writing a text do to the bytes that a reader has left and a writer holds, where these are known.
-use Rattle.std.specs.Prelude.{ℕ, ◌<◌, ◌≤◌, length, take, Ok, Err, Option, Result}
+use Rattle.std.specs.Prelude.{◌≡◌, ℕ, ◌<◌, ◌≤◌, ⊤, length, take, Some, None, Ok, Err, Option, Result}
 use Rattle.std.specs.Io.KnownBytes.{Appends, Consumes, IsAtEnd}
 use Rattle.room.specs.Sales.{Bytes}
+
+-- A file is all that a reader has left, where it says which bytes these are; else it may be any.
+abbrev pub IsAllLeft : Option Bytes → Bytes → Type 0
+IsAllLeft None file = ⊤
+IsAllLeft (Some bytes) file = file ≡ bytes
 
 -- The first n places of a buffer have the next bytes of a reader; and the buffer is full, or the reader at its end.
 pub record Fills (before after : Option Bytes) (buffer : Bytes) (n : ℕ) : Type 0 where

@@ -4,7 +4,7 @@ use Rattle.list.specs.Order.{Rising, by_key}
 use Rattle.room.specs.Runs.{History, IsClosed, Prints}
 use Rattle.room.specs.Sales.{Bytes, Sale, Lodging, Among, OneToAHead}
 use Rattle.file.specs.Contents.{FileContents, contents_in, sale_in}
-use Rattle.file.specs.Holding.{HeldIn, lodgings_of}
+use Rattle.file.specs.Sale.{HeldIn, lodgings_of}
 use Rattle.file.specs.Report.{page_in}
 
 -- A sale within the limits of a room: at most 64 bytes of terms, and 1 to 64 bidders by strictly rising number.

@@ -1,8 +1,11 @@
 // Reading into a buffer and writing a text to their ends, over any reader and writer. The methods of the library say little of what became of the
 // reader or the writer where they fail, and of how much is read where the reader does not say what it has left.
-ghost use Rattle.std.specs.Prelude.{IfOk};
+ghost use Rattle.std.specs.Prelude.{◌≡◌, ◌+◌, ◌≤◌, take, vec_len, IfSome, IfOk};
+ghost use Rattle.file.specs.Lines.{most_bytes};
 ghost use Rattle.file.specs.Streams.{Fills, Writes};
 
+use crate::reader::MOST_FILE_BYTES;
+use std::alloc::Global;
 use std::io;
 use std::io::{ErrorKind, Read, Write};
 
@@ -12,7 +15,7 @@ fn gave_up() -> io::Error {
 }
 
 // Reads into a buffer until it is full or the reader is at its end. Answers how many bytes came.
-pub(crate) fn fill<R: Read>(reader: &mut R, buffer: &mut [u8]) -> io::Result<usize>
+fn fill<R: Read>(reader: &mut R, buffer: &mut [u8]) -> io::Result<usize>
     ensures { IfOk result (Fills (R.remaining reader.old) (R.remaining reader.new) buffer.new) }
 {
     let mut at = 0;
@@ -53,4 +56,19 @@ pub(crate) fn write_whole<W: Write>(writer: &mut W, text: &[u8]) -> io::Result<(
         }
     }
     Err(gave_up())
+}
+
+/// Reads a sale file as far as it can matter: at most one byte more than it may have, since a longer file is refused alike, whatever follows.
+///
+/// # Errors
+/// The reader's, or one of kind `OutOfMemory` where memory does not suffice.
+pub fn read_file<R: Read + Drop>(heap: Global, mut reader: R) -> io::Result<Vec<u8>>
+    ensures few { IfOk result (λ text. vec_len text ≤ most_bytes + 1) }
+    ensures first { IfOk result (λ text. IfSome (R.remaining reader)
+        (λ bytes. text.items ≡ take (most_bytes + 1) bytes)) }
+{
+    let mut text = vec![in heap; 0; MOST_FILE_BYTES + 1]?;
+    let n = fill(&mut reader, &mut text)?;
+    text.truncate(n);
+    Ok(text)
 }

@@ -1,4 +1,5 @@
 // What is checked of a file: that gathering it and its report take it in the same way, and what is printed.
+use crate::making::{begun, file_of};
 use fault::Fault;
 use file::{FileFault, gather, report_on};
 use room::RegisterEntry;
@@ -50,17 +51,25 @@ pub fn is_refused(
     tells(rt, file, &printed, Some((number, line)))
 }
 
-// Checks that each file of a table is accepted, and what is printed of it.
-pub fn accepts(rt: &(impl Abort + AllocGlobal), table: &[(&str, &str)]) -> Result<(), Fail> {
-    for (file, printed) in table {
+// Checks that the file of each row, by its lot, bidders and envelopes, is accepted, and what is printed of it.
+pub fn accepts(
+    rt: &(impl Abort + AllocGlobal),
+    table: &[(&str, &str, &str, &str)],
+) -> Result<(), Fail> {
+    for (values, bidders, envelopes, printed) in table {
+        let file = file_of(rt.alloc(), values, bidders, envelopes)?;
         is_accepted(rt, file.as_bytes(), printed)?;
     }
     Ok(())
 }
 
-// Checks each file of a table against the number and the line that refuse it.
-pub fn refuses(rt: &(impl Abort + AllocGlobal), table: &[(&str, u8, u32)]) -> Result<(), Fail> {
-    for (file, number, line) in table {
+// Checks the file of each row, by how many lines it begins with and how it goes on, against the number and the line that refuse it.
+pub fn refuses(
+    rt: &(impl Abort + AllocGlobal),
+    table: &[(usize, &str, u8, u32)],
+) -> Result<(), Fail> {
+    for (lines, rest, number, line) in table {
+        let file = begun(rt.alloc(), *lines, rest)?;
         is_refused(rt, file.as_bytes(), *number, *line)?;
     }
     Ok(())

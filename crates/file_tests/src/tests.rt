@@ -1,7 +1,7 @@
 // Small files, each with what is printed of it.
 use crate::checking::{NOBODY, accepts, is_accepted, is_refused, refuses};
 use crate::halting::Halting;
-use crate::making::{bidders_then, terms_of};
+use crate::making::{BIDDER_3, begun, bidders_then, file_of, with_commas};
 use cipher::CipherFault;
 use engine::Variant;
 use fault::{Fault, Layer, Place};
@@ -15,21 +15,27 @@ fn a_file_is_accepted(rt: HostRuntime) -> Result<(), Fail> {
         &rt,
         &[
             (
-                "lot,variant,terms\n17,dumbo,bows\n\nbidder,key\n3,000102030405060708090a0b0c0d0e0f\n\
-                 8,101112131415161718191a1b1c1d1e1f\n\nenvelope\n00\n",
+                "17,dumbo,bows",
+                "3,000102030405060708090a0b0c0d0e0f\n8,101112131415161718191a1b1c1d1e1f\n",
+                "00\n",
                 "line,answer\n9,8\n\nlot,bidder,amount\n",
             ),
             (
-                "lot,variant,terms\n0,jumbo,\n\nbidder,key\n0,000102030405060708090a0b0c0d0e0f\n\nenvelope\n",
+                "0,jumbo,",
+                "0,000102030405060708090a0b0c0d0e0f\n",
+                "",
                 "line,answer\n\nlot,bidder,amount\n",
             ),
             (
-                "lot,variant,terms\n4294967295,delirium,a,b,,c\r\n\nbidder,key\n4294967295,ffffffffffffffffffffffffffffffff\n\
-                 1,000102030405060708090a0b0c0d0e0f\n\nenvelope\n00\nabcdef0123456789\n",
+                "4294967295,delirium,a,b,,c\r",
+                "4294967295,ffffffffffffffffffffffffffffffff\n1,000102030405060708090a0b0c0d0e0f\n",
+                "00\nabcdef0123456789\n",
                 "line,answer\n9,8\n10,8\n\nlot,bidder,amount\n",
             ),
             (
-                "lot,variant,terms\n1,dumbo,,\n\nbidder,key\n9,000102030405060708090a0b0c0d0e0f\n\nenvelope\n",
+                "1,dumbo,,",
+                "9,000102030405060708090a0b0c0d0e0f\n",
+                "",
                 "line,answer\n\nlot,bidder,amount\n",
             ),
         ],
@@ -43,8 +49,9 @@ fn a_standing_amount_is_on_the_page(rt: HostRuntime) -> Result<(), Fail> {
         &rt,
         &[
             (
-                "lot,variant,terms\n17,dumbo,bows\n\nbidder,key\n3,000102030405060708090a0b0c0d0e0f\n\nenvelope\n\
-                 0000001100000003000000011e5e336d6208658d1232ad445787804e4592808a040730184ff08b8c5642104bee455e93471c\
+                "17,dumbo,bows",
+                BIDDER_3,
+                "0000001100000003000000011e5e336d6208658d1232ad445787804e4592808a040730184ff08b8c5642104bee455e93471c\
                  c4e6498ab8161cbecfa758b8b3b2914d313eabbe700e0207d0410b740ec7898feaab\n\
                  0000001100000003000000011e5e336d6208658d1232ad445787804e4592808a040730184ff08b8c5642104bee455e93471c\
                  c4e6498ab8161cbecfa758b8b3b2914d313eabbe700e0207d0410b740ec7898feaab\n\
@@ -53,8 +60,9 @@ fn a_standing_amount_is_on_the_page(rt: HostRuntime) -> Result<(), Fail> {
                 "line,answer\n8,0\n9,11\n10,9\n\nlot,bidder,amount\n17,3,250000\n",
             ),
             (
-                "lot,variant,terms\n17,jumbo,bows\n\nbidder,key\n3,000102030405060708090a0b0c0d0e0f\n\nenvelope\n\
-                 000000110000000300000001726f8eec159620454b2ee49b8153c96a0a4144972d1d689a51f35e8363942a9d4f47d5adeb85\
+                "17,jumbo,bows",
+                BIDDER_3,
+                "000000110000000300000001726f8eec159620454b2ee49b8153c96a0a4144972d1d689a51f35e8363942a9d4f47d5adeb85\
                  8b8da913481aa1bd1f53b237f29cb2ebb4ac721c29ea225bf12b97dd1d9886254a0b\n\
                  000000110000000300000001726f8eec159620454b2ee49b8153c96a0a4144972d1d689a51f35e8363942a9d4f47d5adeb85\
                  8b8da913481aa1bd1f53b237f29cb2ebb4ac721c29ea225bf12b97dd1d9886254a0b\n\
@@ -63,8 +71,9 @@ fn a_standing_amount_is_on_the_page(rt: HostRuntime) -> Result<(), Fail> {
                 "line,answer\n8,0\n9,11\n10,9\n\nlot,bidder,amount\n17,3,999999999999\n",
             ),
             (
-                "lot,variant,terms\n17,delirium,bows\n\nbidder,key\n3,000102030405060708090a0b0c0d0e0f\n\nenvelope\n\
-                 0000001100000003000000018d1984eca91a80eb63f6c3d417b1fa4bc21f91e0d0c4f9e830ca99dd3bffce00c060244fd129\
+                "17,delirium,bows",
+                BIDDER_3,
+                "0000001100000003000000018d1984eca91a80eb63f6c3d417b1fa4bc21f91e0d0c4f9e830ca99dd3bffce00c060244fd129\
                  6db0acf80af2b0af33687988d2325d96091e43b4fbb3c90cd50b3b01761c546357fdba4de01803843f6f\n\
                  0000001100000003000000018d1984eca91a80eb63f6c3d417b1fa4bc21f91e0d0c4f9e830ca99dd3bffce00c060244fd129\
                  6db0acf80af2b0af33687988d2325d96091e43b4fbb3c90cd50b3b01761c546357fdba4de01803843f6f\n\
@@ -81,30 +90,30 @@ fn the_form_of_the_lot(rt: HostRuntime) -> Result<(), Fail> {
     refuses(
         &rt,
         &[
-            ("", 22, 1),
-            ("\n", 22, 1),
-            ("lot,variant,terms", 22, 1),
-            ("lot,variant,terms\n", 22, 2),
-            ("lot,variant\n17,dumbo,bows\n", 22, 1),
-            ("lot,variant,terms\n17,dumbo", 22, 2),
-            ("lot,variant,terms\n17,dumbo\n", 22, 2),
-            ("lot,variant,terms\n17\n", 22, 2),
-            ("lot,variant,terms\n,dumbo,\n", 22, 2),
-            ("lot,variant,terms\n00,dumbo,\n", 22, 2),
-            ("lot,variant,terms\n017,dumbo,\n", 22, 2),
-            ("lot,variant,terms\n+1,dumbo,\n", 22, 2),
-            ("lot,variant,terms\n1x,dumbo,\n", 22, 2),
-            ("lot,variant,terms\n4294967296,dumbo,\n", 22, 2),
-            ("lot,variant,terms\n99999999999999999999999,dumbo,\n", 22, 2),
-            ("lot,variant,terms\n17,Dumbo,\n", 22, 2),
-            ("lot,variant,terms\n17,,\n", 22, 2),
-            ("lot,variant,terms\n17, dumbo,\n", 22, 2),
-            ("lot,variant,terms\n17,dumbo,bows", 22, 2),
-            ("\nlot,variant,terms\n17,dumbo,bows\n", 22, 1),
-            ("lot,variant,terms\n17,dumbo,bows\n \n", 22, 3),
-            ("lot,variant,terms\n17,dumbo,bows\n", 22, 3),
-            ("lot,variant,terms\n17,dumbo,bows\nbidder,key\n", 22, 3),
-            ("lot,variant,terms\r\n17,dumbo,bows\n", 22, 1),
+            (0, "", 22, 1),
+            (0, "\n", 22, 1),
+            (0, "lot,variant,terms", 22, 1),
+            (1, "", 22, 2),
+            (0, "lot,variant\n17,dumbo,bows\n", 22, 1),
+            (1, "17,dumbo", 22, 2),
+            (1, "17,dumbo\n", 22, 2),
+            (1, "17\n", 22, 2),
+            (1, ",dumbo,\n", 22, 2),
+            (1, "00,dumbo,\n", 22, 2),
+            (1, "017,dumbo,\n", 22, 2),
+            (1, "+1,dumbo,\n", 22, 2),
+            (1, "1x,dumbo,\n", 22, 2),
+            (1, "4294967296,dumbo,\n", 22, 2),
+            (1, "99999999999999999999999,dumbo,\n", 22, 2),
+            (1, "17,Dumbo,\n", 22, 2),
+            (1, "17,,\n", 22, 2),
+            (1, "17, dumbo,\n", 22, 2),
+            (1, "17,dumbo,bows", 22, 2),
+            (0, "\nlot,variant,terms\n17,dumbo,bows\n", 22, 1),
+            (1, "17,dumbo,bows\n \n", 22, 3),
+            (1, "17,dumbo,bows\n", 22, 3),
+            (1, "17,dumbo,bows\nbidder,key\n", 22, 3),
+            (0, "lot,variant,terms\r\n17,dumbo,bows\n", 22, 1),
         ],
     )
 }
@@ -114,80 +123,28 @@ fn the_form_of_the_bidders(rt: HostRuntime) -> Result<(), Fail> {
     refuses(
         &rt,
         &[
-            ("lot,variant,terms\n17,dumbo,\n\n", 22, 4),
-            ("lot,variant,terms\n17,dumbo,\n\nbidder,keys\n", 22, 4),
-            ("lot,variant,terms\n17,dumbo,\n\nbidder,key\n", 22, 5),
-            ("lot,variant,terms\n17,dumbo,\n\nbidder,key\n\n", 22, 5),
-            ("lot,variant,terms\n17,dumbo,\n\nbidder,key\n3\n", 22, 5),
+            (3, "", 22, 4),
+            (3, "bidder,keys\n", 22, 4),
+            (4, "", 22, 5),
+            (4, "\n", 22, 5),
+            (4, "3\n", 22, 5),
+            (4, "03,000102030405060708090a0b0c0d0e0f\n", 22, 5),
+            (4, "4294967296,000102030405060708090a0b0c0d0e0f\n", 22, 5),
+            (4, "3,000102030405060708090a0b0c0d0e0f,\n", 22, 5),
+            (4, "3,\n", 22, 5),
+            (4, "3,000102030405060708090A0B0C0D0E0F\n", 22, 5),
+            (4, "3,000102030405060708090a0b0c0d0e0\n", 22, 5),
+            (4, "3,000102030405060708090a0b0c0d0e0f0\n", 22, 5),
+            (4, "3,000102030405060708090a0b0c0d0e0g\n", 22, 5),
+            (4, "3,000102030405060708090a0b0c0d0e0f", 22, 5),
+            (5, "", 22, 6),
+            (6, "4,000102030405060708090a0b0c0d0e0f\n", 22, 7),
+            (5, "3,ffffffffffffffffffffffffffffffff\n", 17, 6),
+            (5, "3,f\n", 22, 6),
+            (5, "3,000102030405060708090a0b0c0d0e0f", 22, 6),
             (
-                "lot,variant,terms\n17,dumbo,\n\nbidder,key\n03,000102030405060708090a0b0c0d0e0f\n",
-                22,
                 5,
-            ),
-            (
-                "lot,variant,terms\n17,dumbo,\n\nbidder,key\n4294967296,000102030405060708090a0b0c0d0e0f\n",
-                22,
-                5,
-            ),
-            (
-                "lot,variant,terms\n17,dumbo,\n\nbidder,key\n3,000102030405060708090a0b0c0d0e0f,\n",
-                22,
-                5,
-            ),
-            ("lot,variant,terms\n17,dumbo,\n\nbidder,key\n3,\n", 22, 5),
-            (
-                "lot,variant,terms\n17,dumbo,\n\nbidder,key\n3,000102030405060708090A0B0C0D0E0F\n",
-                22,
-                5,
-            ),
-            (
-                "lot,variant,terms\n17,dumbo,\n\nbidder,key\n3,000102030405060708090a0b0c0d0e0\n",
-                22,
-                5,
-            ),
-            (
-                "lot,variant,terms\n17,dumbo,\n\nbidder,key\n3,000102030405060708090a0b0c0d0e0f0\n",
-                22,
-                5,
-            ),
-            (
-                "lot,variant,terms\n17,dumbo,\n\nbidder,key\n3,000102030405060708090a0b0c0d0e0g\n",
-                22,
-                5,
-            ),
-            (
-                "lot,variant,terms\n17,dumbo,\n\nbidder,key\n3,000102030405060708090a0b0c0d0e0f",
-                22,
-                5,
-            ),
-            (
-                "lot,variant,terms\n17,dumbo,\n\nbidder,key\n3,000102030405060708090a0b0c0d0e0f\n",
-                22,
-                6,
-            ),
-            (
-                "lot,variant,terms\n17,dumbo,\n\nbidder,key\n3,000102030405060708090a0b0c0d0e0f\n\n4,000102030405060708090a0b0c0d0e0f\n",
-                22,
-                7,
-            ),
-            (
-                "lot,variant,terms\n17,dumbo,\n\nbidder,key\n3,000102030405060708090a0b0c0d0e0f\n3,ffffffffffffffffffffffffffffffff\n",
-                17,
-                6,
-            ),
-            (
-                "lot,variant,terms\n17,dumbo,\n\nbidder,key\n3,000102030405060708090a0b0c0d0e0f\n3,f\n",
-                22,
-                6,
-            ),
-            (
-                "lot,variant,terms\n17,dumbo,\n\nbidder,key\n3,000102030405060708090a0b0c0d0e0f\n3,000102030405060708090a0b0c0d0e0f",
-                22,
-                6,
-            ),
-            (
-                "lot,variant,terms\n17,dumbo,\n\nbidder,key\n3,000102030405060708090a0b0c0d0e0f\n\
-                 4,000102030405060708090a0b0c0d0e0f\n3,000102030405060708090a0b0c0d0e0f\n",
+                "4,000102030405060708090a0b0c0d0e0f\n3,000102030405060708090a0b0c0d0e0f\n",
                 17,
                 7,
             ),
@@ -200,56 +157,16 @@ fn the_form_of_the_envelopes(rt: HostRuntime) -> Result<(), Fail> {
     refuses(
         &rt,
         &[
-            (
-                "lot,variant,terms\n17,dumbo,\n\nbidder,key\n3,000102030405060708090a0b0c0d0e0f\n\n",
-                22,
-                7,
-            ),
-            (
-                "lot,variant,terms\n17,dumbo,\n\nbidder,key\n3,000102030405060708090a0b0c0d0e0f\n\nenvelopes\n",
-                22,
-                7,
-            ),
-            (
-                "lot,variant,terms\n17,dumbo,\n\nbidder,key\n3,000102030405060708090a0b0c0d0e0f\n\nenvelope",
-                22,
-                7,
-            ),
-            (
-                "lot,variant,terms\n17,dumbo,\n\nbidder,key\n3,000102030405060708090a0b0c0d0e0f\n\nenvelope\n0\n",
-                22,
-                8,
-            ),
-            (
-                "lot,variant,terms\n17,dumbo,\n\nbidder,key\n3,000102030405060708090a0b0c0d0e0f\n\nenvelope\n0g\n",
-                22,
-                8,
-            ),
-            (
-                "lot,variant,terms\n17,dumbo,\n\nbidder,key\n3,000102030405060708090a0b0c0d0e0f\n\nenvelope\n00\r\n",
-                22,
-                8,
-            ),
-            (
-                "lot,variant,terms\n17,dumbo,\n\nbidder,key\n3,000102030405060708090a0b0c0d0e0f\n\nenvelope\n00\n\n",
-                22,
-                9,
-            ),
-            (
-                "lot,variant,terms\n17,dumbo,\n\nbidder,key\n3,000102030405060708090a0b0c0d0e0f\n\nenvelope\n00\n000\n",
-                22,
-                9,
-            ),
-            (
-                "lot,variant,terms\n17,dumbo,\n\nbidder,key\n3,000102030405060708090a0b0c0d0e0f\n\nenvelope\n00\nAA\n",
-                22,
-                9,
-            ),
-            (
-                "lot,variant,terms\n17,dumbo,\n\nbidder,key\n3,000102030405060708090a0b0c0d0e0f\n\nenvelope\n00\n00",
-                22,
-                9,
-            ),
+            (6, "", 22, 7),
+            (6, "envelopes\n", 22, 7),
+            (6, "envelope", 22, 7),
+            (7, "0\n", 22, 8),
+            (7, "0g\n", 22, 8),
+            (7, "00\r\n", 22, 8),
+            (7, "00\n\n", 22, 9),
+            (7, "00\n000\n", 22, 9),
+            (7, "00\nAA\n", 22, 9),
+            (7, "00\n00", 22, 9),
         ],
     )
 }
@@ -280,8 +197,7 @@ fn an_endless_file_is_too_long(rt: HostRuntime) -> Result<(), Fail> {
 
 #[test]
 fn a_sale_is_held_where_reading_is_interrupted(rt: HostRuntime) -> Result<(), Fail> {
-    let file =
-        "lot,variant,terms\n17,dumbo,bows\n\nbidder,key\n3,000102030405060708090a0b0c0d0e0f\n\nenvelope\n00\n";
+    let file = file_of(rt.alloc(), "17,dumbo,bows", BIDDER_3, "00\n")?;
     let reader = Halting::new(file.as_bytes());
     let mut printed = Vec::new(rt.alloc());
     let status = hold_sale(rt.alloc(), reader, &mut printed)?;
@@ -296,18 +212,19 @@ fn a_sale_is_held_where_reading_is_interrupted(rt: HostRuntime) -> Result<(), Fa
 // In a line the form goes before the limit of the terms, and a line before those behind it.
 #[test]
 fn terms_have_at_most_64_bytes(rt: HostRuntime) -> Result<(), Fail> {
-    let behind = "\n\nbidder,key\n3,000102030405060708090a0b0c0d0e0f\n\nenvelope\n";
-    let fits = terms_of(rt.alloc(), "1,jumbo,", 64, behind)?;
-    is_accepted(&rt, &fits, "line,answer\n\nlot,bidder,amount\n")?;
-    for (values, behind, number) in [
-        ("1,jumbo,", behind, 15),
-        ("1,jumbo,", "\nno empty line\n", 15),
-        ("01,jumbo,", behind, 22),
-        ("1,rambo,", behind, 22),
-        ("1,jumbo,", "", 22),
-    ] {
-        let long = terms_of(rt.alloc(), values, 65, behind)?;
-        is_refused(&rt, &long, number, 2)?;
+    let terms = with_commas(rt.alloc(), "1,jumbo,", 64)?;
+    let fits = file_of(rt.alloc(), &terms, BIDDER_3, "")?;
+    is_accepted(&rt, fits.as_bytes(), "line,answer\n\nlot,bidder,amount\n")?;
+    for (values, number) in [("1,jumbo,", 15), ("01,jumbo,", 22), ("1,rambo,", 22)] {
+        let terms = with_commas(rt.alloc(), values, 65)?;
+        let long = file_of(rt.alloc(), &terms, BIDDER_3, "")?;
+        is_refused(&rt, long.as_bytes(), number, 2)?;
+    }
+    for (behind, number) in [("\nno empty line\n", 15), ("", 22)] {
+        let mut terms = with_commas(rt.alloc(), "1,jumbo,", 65)?;
+        terms.push_str(behind)?;
+        let long = begun(rt.alloc(), 1, &terms)?;
+        is_refused(&rt, long.as_bytes(), number, 2)?;
     }
     Ok(())
 }
@@ -315,16 +232,18 @@ fn terms_have_at_most_64_bytes(rt: HostRuntime) -> Result<(), Fail> {
 // In a line the form goes before the list, and there an equal bidder before the 65th.
 #[test]
 fn at_most_64_bidders(rt: HostRuntime) -> Result<(), Fail> {
-    let fits = bidders_then(rt.alloc(), 64, "\nenvelope\n")?;
-    is_accepted(&rt, &fits, "line,answer\n\nlot,bidder,amount\n")?;
+    let bidders = bidders_then(rt.alloc(), 64, "")?;
+    let fits = file_of(rt.alloc(), "1,jumbo,", &bidders, "")?;
+    is_accepted(&rt, fits.as_bytes(), "line,answer\n\nlot,bidder,amount\n")?;
     for (next, number) in [
         ("64,000102030405060708090a0b0c0d0e0f\n\nenvelope\n", 18),
         ("63,000102030405060708090a0b0c0d0e0f\n\nenvelope\n", 17),
         ("064,000102030405060708090a0b0c0d0e0f\n", 22),
         ("64,000102030405060708090a0b0c0d0e0f", 22),
     ] {
-        let many = bidders_then(rt.alloc(), 64, next)?;
-        is_refused(&rt, &many, number, 69)?;
+        let bidders = bidders_then(rt.alloc(), 64, next)?;
+        let many = begun(rt.alloc(), 4, &bidders)?;
+        is_refused(&rt, many.as_bytes(), number, 69)?;
     }
     Ok(())
 }
@@ -332,22 +251,21 @@ fn at_most_64_bidders(rt: HostRuntime) -> Result<(), Fail> {
 // The file of 20 bytes of terms and 10,888 envelopes of one byte has 32,768 bytes, and one more byte of terms is too much.
 #[test]
 fn a_file_has_at_most_32768_bytes(rt: HostRuntime) -> Result<(), Fail> {
-    let mut behind = String::from_str(
-        rt.alloc(),
-        "\n\nbidder,key\n0,000102030405060708090a0b0c0d0e0f\n\nenvelope\n",
-    )?;
+    let mut envelopes = String::new(rt.alloc());
     let mut printed = String::from_str(rt.alloc(), "line,answer\n")?;
     for line in 8..10_896u32 {
-        behind.push_str("00\n")?;
+        envelopes.push_str("00\n")?;
         write!(printed, "{line},8\n")?;
     }
     printed.push_str("\nlot,bidder,amount\n")?;
-    let fits = terms_of(rt.alloc(), "1,jumbo,", 20, &behind)?;
+    let terms = with_commas(rt.alloc(), "1,jumbo,", 20)?;
+    let fits = file_of(rt.alloc(), &terms, BIDDER_3, &envelopes)?;
     assert_eq!(rt; fits.len(), 32768);
-    is_accepted(&rt, &fits, &printed)?;
-    let long = terms_of(rt.alloc(), "1,jumbo,", 21, &behind)?;
+    is_accepted(&rt, fits.as_bytes(), &printed)?;
+    let terms = with_commas(rt.alloc(), "1,jumbo,", 21)?;
+    let long = file_of(rt.alloc(), &terms, BIDDER_3, &envelopes)?;
     assert_eq!(rt; long.len(), 32769);
-    is_refused(&rt, &long, 23, 0)
+    is_refused(&rt, long.as_bytes(), 23, 0)
 }
 
 #[test]
@@ -360,9 +278,8 @@ fn the_size_goes_before_the_form(rt: HostRuntime) -> Result<(), Fail> {
 
 #[test]
 fn bidders_are_gathered_by_rising_number(rt: HostRuntime) -> Result<(), Fail> {
-    let file =
-        "lot,variant,terms\n17,delirium,bows, new\n\nbidder,key\n8,101112131415161718191a1b1c1d1e1f\n\
-         3,000102030405060708090a0b0c0d0e0f\n\nenvelope\n00\n";
+    let bidders = "8,101112131415161718191a1b1c1d1e1f\n3,000102030405060708090a0b0c0d0e0f\n";
+    let file = file_of(rt.alloc(), "17,delirium,bows, new", bidders, "00\n")?;
     let mut places = [NOBODY; 64];
     match gather(file.as_bytes(), &mut places) {
         Ok(g) => {
@@ -382,9 +299,10 @@ fn bidders_are_gathered_by_rising_number(rt: HostRuntime) -> Result<(), Fail> {
 }
 
 #[test]
-fn bidders_before_a_refused_line_stay_in_their_places(rt: HostRuntime) {
-    let file =
-        "lot,variant,terms\n17,dumbo,\n\nbidder,key\n8,101112131415161718191a1b1c1d1e1f\n3,000102030405060708090a0b0c0d0e0f\n8,000102030405060708090a0b0c0d0e0f\n9,000102030405060708090a0b0c0d0e0f\n";
+fn bidders_before_a_refused_line_stay_in_their_places(rt: HostRuntime) -> Result<(), Fail> {
+    let bidders =
+        "8,101112131415161718191a1b1c1d1e1f\n3,000102030405060708090a0b0c0d0e0f\n8,000102030405060708090a0b0c0d0e0f\n9,000102030405060708090a0b0c0d0e0f\n";
+    let file = begun(rt.alloc(), 4, bidders)?;
     let mut places = [NOBODY; 64];
     let refusal = gather(file.as_bytes(), &mut places).err();
     assert_eq!(rt; refusal.map(|f| (f.number(), f.line())), Some((17, 7)));
@@ -392,12 +310,12 @@ fn bidders_before_a_refused_line_stay_in_their_places(rt: HostRuntime) {
     assert_eq!(rt; places[1].bidder, 8);
     assert_eq!(rt; places[1].key[0], 0x10);
     assert_eq!(rt; places[2].bidder, 0);
+    Ok(())
 }
 
 #[test]
 fn a_reader_gives_envelopes_with_their_lines(rt: HostRuntime) -> Result<(), Fail> {
-    let file =
-        "lot,variant,terms\n17,dumbo,\n\nbidder,key\n3,000102030405060708090a0b0c0d0e0f\n\nenvelope\n00ff\n";
+    let file = begun(rt.alloc(), 7, "00ff\n")?;
     let mut reader = Reader::new(file.as_bytes());
     let _ = reader.next();
     let _ = reader.next();

@@ -1,6 +1,6 @@
 -- The laws of a room's calls: the definitions compute.
 use Rattle.std.proofs.Common.{length, refl}
-use Rattle.std.proofs.lemmas.Bool.{eq-eqb, ne_eqb, lt-leb, le-ltb}
+use Rattle.std.proofs.lemmas.Bool.{eq-eqb, ne_eqb, lt-leb, le-leb, le-ltb}
 use Rattle.room.specs.Calls.{lodging_checks}
 use Rattle.room.specs.CallLaws.{ChecksInOrder, CallLaws}
 use Rattle.room.proofs.Registers.{lawful_exactly}
@@ -9,12 +9,14 @@ in_order : ChecksInOrder
 unfolding lodging_checks
 in_order = record {
   making_looks_at_the_terms_first = λ s long. rw (lt-leb (length s.terms) 64 long) refl;
+  making_then_at_the_register = λ s short unlawful. rw (le-leb (length s.terms) 64 short, unlawful) refl;
   lodging_looks_at_the_phase_first = λ r e. refl;
   then_at_the_length = λ r e p h. rw (p, ne_eqb _ _ h) refl;
   then_at_the_lot = λ r e p l h. rw (p, eq-eqb _ _ l, ne_eqb _ _ h) refl;
   then_at_the_bidder = λ r e p l q h. rw (p, eq-eqb _ _ l, eq-eqb _ _ q, h) refl;
   then_at_the_sequence = λ r e p l q k h. rw (p, eq-eqb _ _ l, eq-eqb _ _ q, k, le-ltb _ _ h) refl;
   opening_looks_at_the_phase_first = λ r o p. rw p refl;
+  opening_then_at_the_places = λ r o unlawful. rw unlawful refl;
 }
 
 pub call_laws : CallLaws

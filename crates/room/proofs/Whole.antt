@@ -50,7 +50,7 @@ promised = record {
   unregistered_bidders_stand_with_0 = unregistered;
   sealed_bids_are_genuine_and_stand_with_their_amount = λ x b n l q counted.
       (bid_genuine x.sale x.sale.lot b n l.envelope q refl counted, λ st. inl (l, st, sym (bid_amount x.sale x.sale.lot b n l.envelope q)));
-  engines_enter_by_their_variant_alone = variant_proof;
+  sale_and_calls_determine_answers_and_contents = variant_proof;
   every_making_begins_a_history = λ s before start m. (begun s before start m, refl, refl, refl);
   every_call_goes_on = λ x c a t m. (gone_on x c a t m, refl, refl, refl);
   some_rooms_differ_in_a_letter = differ_in_a_letter;

@@ -7,11 +7,11 @@ use Rattle.list.specs.Order.{Rising, by_key}
 use Rattle.room.specs.Limits.{most_bidders}
 use Rattle.room.specs.Sales.{Sale, Lodging, is_registered}
 use Rattle.room.specs.Rooms.{Contents, register_of, kept_for, sequence_in}
-use Rattle.room.specs.Calls.{Sizes, LodgingOf, Asking, Closing, Opening, answer_to, closed_room}
+use Rattle.room.specs.Calls.{Sizes, LodgingOf, Asking, Closing, Opening, answer_to, closed_room, has_opening_sizes}
 use Rattle.room.specs.Making.{is_lawful_register, making_answer}
 use Rattle.room.specs.Runs.{met_with, lodgings_before_closing, answers_to_closing}
 use Rattle.room.specs.declared.faults.RoomFault.{RoomFault}
-use Rattle.room.specs.declared.faults.RoomFault.TheVariants.{TermsLength, Closed, EnvelopeLength, OtherLot, UnknownBidder, SequenceNotAbove, NotClosed}
+use Rattle.room.specs.declared.faults.RoomFault.TheVariants.{TermsLength, Register, Closed, EnvelopeLength, OtherLot, UnknownBidder, SequenceNotAbove, NotClosed, Places}
 use Rattle.room.specs.declared.register.RegisterEntry.{RegisterEntry}
 use Rattle.room.specs.declared.slots.Phase.TheVariants.{Open as PhaseOpen}
 
@@ -19,6 +19,9 @@ use Rattle.room.specs.declared.slots.Phase.TheVariants.{Open as PhaseOpen}
 pub record ChecksInOrder : Type 0 where
   pub making_looks_at_the_terms_first :
       (s : Sale) → most_terms_bytes < length s.terms → making_answer s ≡ Err TermsLength
+  pub making_then_at_the_register :
+      (s : Sale) → length s.terms ≤ most_terms_bytes → is_lawful_register s.register ≡ false
+      → making_answer s ≡ Err Register
   pub lodging_looks_at_the_phase_first :
       (r : Contents) (l : Lodging) → answer_to (closed_room r) (LodgingOf l) ≡ Err Closed
   pub then_at_the_length :
@@ -43,6 +46,9 @@ pub record ChecksInOrder : Type 0 where
       → answer_to r (LodgingOf l) ≡ Err SequenceNotAbove
   pub opening_looks_at_the_phase_first :
       (r : Contents) (o : Sizes) → r.phase ≡ PhaseOpen → answer_to r (Opening o) ≡ Err NotClosed
+  pub opening_then_at_the_places :
+      (r : Contents) (o : Sizes) → has_opening_sizes o ≡ false
+      → answer_to (closed_room r) (Opening o) ≡ Err Places
 
 -- What is said of making, of calls alone, and of which lodgings and answers count in a list of calls.
 pub record CallLaws : Type 0 where

@@ -8,7 +8,7 @@ use Rattle.room.specs.Runs.{History, IsClosed, Stands, Prints}
 abbrev pub page_17 : Bytes
 page_17 = codes "lot,bidder,amount\n17,3,250000\n17,5,250000\n17,8,310000\n"
 
--- A closed room of lot 17 with bidders 3, 5, 8 and 9, of which 3 and 5 stand with 250000, 8 with 310000, and 9 has withdrawn.
+-- A closed room of lot 17 with bidders 3, 5, 8 and 9, of which 3 and 5 stand with 250000, 8 with 310000, and 9 with 0, as after a withdrawal.
 pub record IsRoomOfLot17 (x : History) : Type 0 where
   pub is_closed : IsClosed x
   pub lot : x.sale.lot ≡ 17

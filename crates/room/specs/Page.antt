@@ -1,4 +1,4 @@
--- The page: the line of names, then the line of each row_of, every line closed by byte 10.
+-- The page: the line of names, then the line of each row, every line closed by byte 10.
 use Rattle.std.specs.Prelude.{ℕ, List, [], ◌∷◌, ◌++◌, map, codes, decimal}
 use Rattle.std.specs.List.{flat_map}
 use Rattle.room.specs.declared.printing.Row.{Row}

@@ -1,4 +1,4 @@
--- The promise: what is said of rooms after every list of calls, whatever engines they have. Three statements come first, then what makes them whole.
+-- The promise: what is said of rooms after every list of calls, whatever engines they have. What it is for comes first, then what makes that whole.
 use Rattle.std.specs.Prelude.{◌≡◌, ℕ, ◌≤◌, true, ◌↔◌, List, [], ◌∷◌, ◌++◌, Ok, Result, ◌≢◌}
 use Rattle.std.specs.List.{AllZip}
 use Rattle.engine.specs.declared.variants.Variant.{Variant}
@@ -55,9 +55,9 @@ pub record Promise : Type 0 where
       (x : History) (bidder sequence : ℕ) (l : Lodging)
       (q : Sealed x.sale x.sale.lot bidder sequence l.envelope) → 1 ≤ sequence
       → GenuineIn x l × (Standing x.sale (lodgings x) bidder l → Stands x bidder q.amount)
-  -- An engine enters by its variant alone: two rooms of one sale that have met the same calls, each above some engine of the sale's variant, have
-  -- given the same answers and hold the same.
-  pub engines_enter_by_their_variant_alone :
+  -- Two rooms of one sale that have met the same calls have given the same answers and hold the same. (A sale names the variant; that of an engine
+  -- nothing else enters is said by every call's contract, which speaks of its variant alone.)
+  pub sale_and_calls_determine_answers_and_contents :
       (x y : History) → x.sale ≡ y.sale → calls_of x.meetings ≡ calls_of y.meetings
       → (x.meetings ≡ y.meetings)
       × (contents_of x.sale.variant x.room ≡ contents_of y.sale.variant y.room)

@@ -5,7 +5,7 @@ use cipher::KEY_BYTES;
 use list::Entry;
 use std::cmp::Ordering;
 
-// A registered bidder and its key.
+/// A registered bidder and its key of 16 bytes. Bidders are numbers that the house gives, each to one.
 #[derive(Clone, Copy)]
 pub struct RegisterEntry {
     pub bidder: u32,

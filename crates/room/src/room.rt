@@ -18,7 +18,9 @@ use engine::Engine;
 /// A room. It is put together by writing both fields. Over a fresh place it is a closed room of lot 0 without bidders, until it is made.
 #[derive(Drop)]
 pub struct Room<'r, E: Engine + Drop> {
+    /// The place of the room.
     pub inner: &'r mut RoomState,
+    /// The engine by which its envelopes are checked and opened.
     pub engine: E,
 }
 
@@ -26,6 +28,10 @@ pub struct Room<'r, E: Engine + Drop> {
 // take a `&`: they change nothing of a room.
 impl<'r, E: Engine + Drop> Room<'r, E> {
     /// Makes the room: it is open afterwards, and nothing is lodged yet. A refusal leaves the place as it was.
+    ///
+    /// # Errors
+    ///
+    /// `TermsLength` for terms of more than 64 bytes, and then `Register` for a register that has not 1 to 64 entries by rising bidder.
     pub fn make(
         &mut self,
         lot: u32,
@@ -46,7 +52,12 @@ impl<'r, E: Engine + Drop> Room<'r, E> {
         self.inner.make(lot, terms, register)
     }
 
-    /// Lodges an envelope, and answers its sequence.
+    /// Lodges an envelope, and answers its sequence. A refusal leaves the room as it was.
+    ///
+    /// # Errors
+    ///
+    /// In this order: `Closed`, `EnvelopeLength`, `OtherLot`, `UnknownBidder`, `SequenceNotAbove` for one that is not above the bidder's last
+    /// accepted, and `WrongTag` where its tag is wrong.
     pub fn lodge(&mut self, envelope: &[u8]) -> Result<u32, RoomFault>
         ensures meets { let lodging : Lodging = record { envelope = envelope.now } in
             Met (E.kind self.old.engine) self.old.inner.now (LodgingOf lodging) result self.new.inner.now }
@@ -57,6 +68,10 @@ impl<'r, E: Engine + Drop> Room<'r, E> {
     }
 
     /// The last accepted sequence of a bidder, 0 at first.
+    ///
+    /// # Errors
+    ///
+    /// `UnknownBidder` for one who is not in the register.
     pub fn ask(&self, bidder: u32) -> Result<u32, RoomFault>
         ensures meets { let room = self.now.inner.now in
             Met (E.kind self.now.engine) room (Asking bidder) result room }
@@ -65,6 +80,10 @@ impl<'r, E: Engine + Drop> Room<'r, E> {
     }
 
     /// Ends lodging.
+    ///
+    /// # Errors
+    ///
+    /// `Closed` for a room that is closed already.
     pub fn close(&mut self) -> Result<(), RoomFault>
         ensures meets { let answer = without_number result in
             Met (E.kind self.old.engine) self.old.inner.now Closing answer self.new.inner.now }
@@ -76,6 +95,11 @@ impl<'r, E: Engine + Drop> Room<'r, E> {
 
     /// Opens all that was lodged: lists each bidder whose amount is above 0 on the sheet, writes the page, and answers its length in bytes. The
     /// work area is all zero afterwards, granted or refused. The room stays as it is.
+    ///
+    /// # Errors
+    ///
+    /// `NotClosed` before the closing, and then `Places` where `sheet` has less than 64 entries, `page` less than 2,258 bytes, or `work` not
+    /// just 64 bytes.
     pub fn open(
         &self,
         sheet: &mut [SheetEntry],

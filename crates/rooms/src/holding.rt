@@ -2,6 +2,7 @@
 use crate::bidding::{bid, key_of, unlawful};
 use crate::opening::{open_with_nothing, open_with_others, print_page};
 use crate::telling::{Cents, tell_asked, tell_done, tell_lodged};
+use anyhow::anyhow;
 use engine::Engine;
 use envelope::{HeadFields, Pen, envelope_bytes};
 use refusals::Refusal;
@@ -57,7 +58,7 @@ pub fn hold_sale<E: Engine + Copy>(
     let made = room.make(LOT, TERMS, &register);
     tell_done(rt, "making a room for bidders 3, 4, 5, 8 and 9", made)?;
     let Ok(mut pen) = Pen::new(LOT, TERMS) else {
-        return Ok(());
+        return Err(anyhow!("no pen is given for the terms of lot {LOT}"));
     };
     lodge_bids(rt, &mut room, &mut pen)?;
     lodge_without_pen(rt, &mut room)?;
@@ -186,7 +187,7 @@ pub fn hold_again<E: Engine + Copy>(
     tell_done(rt, "making a room for bidders 2 and 3", made)?;
     tell_asked(rt, 3, room.ask(3))?;
     let Ok(mut pen) = Pen::new(NEXT_LOT, b"") else {
-        return Ok(());
+        return Err(anyhow!("no pen is given for the terms of lot {NEXT_LOT}"));
     };
     lodge_bid(rt, &mut room, &mut pen, 2, 999_999_999_999)?;
     tell_done(rt, "closing", room.close())?;

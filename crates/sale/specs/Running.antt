@@ -1,7 +1,7 @@
 -- How a run of the program ends, by what its input had left and what its output held before and after, where these are known.
 use Rattle.std.specs.Prelude.{◌≡◌, ◌≢◌, ℕ, Option}
 use Rattle.room.specs.Sales.{Bytes}
-use Rattle.file.specs.Selling.{WritesReport, BreaksOff}
+use Rattle.file.specs.Sale.{WritesReport, BreaksOff}
 
 -- With status 2 a beginning of the report of the whole input was printed at most, and with any other the report was printed and the status is that
 -- of the report. Nothing else was printed.

@@ -2,9 +2,9 @@ use Rattle.std.proofs.Common.{◌≡◌, [], Some, None, Err, Option, refl, sym,
 use Rattle.std.specs.Io.KnownBytes.{Appends}
 use Rattle.std.proofs.KnownBytes.{Appends-nil}
 use Rattle.room.specs.Sales.{Bytes}
-use Rattle.file.specs.Selling.{BreaksOff, HoldsSale}
-use Rattle.file.specs.declared.selling.SaleError.{SaleError}
-use Rattle.file.specs.declared.selling.SaleError.TheVariants.{Memory, Reading, Writing}
+use Rattle.file.specs.Sale.{BreaksOff, HoldsSale}
+use Rattle.file.specs.declared.report.SaleError.{SaleError}
+use Rattle.file.specs.declared.report.SaleError.TheVariants.{Memory, Reading, Writing}
 use Rattle.sale.proofs.run.Goals as goal
 
 -- where nothing was written, no more than a beginning of the report was

@@ -1,6 +1,6 @@
 use Rattle.std.proofs.Common.{◌≡◌, length}
 use Rattle.file.proofs.Cuts.{Behind}
-use Rattle.file.specs.Read.{items_left}
+use Rattle.file.specs.Reader.{items_left}
 use Rattle.file.proofs.reader.Reader.read.Given as goal
 
 abbrev pub invariant-loop-self : goal.invariant-loop-self
