@@ -36,17 +36,17 @@ fn agreements(rt: &HostRuntime) -> anyhow::Result<ExitCode> {
     }
 }
 
-fn plain(variant: Variant) -> Plain {
+fn plain_of(variant: Variant) -> Plain {
     Plain { variant }
 }
 
 fn measure(rt: &HostRuntime) -> anyhow::Result<()> {
     println!(rt; "engine,ns one block,ns a block of four,ns a sealed letter")?;
-    measure_engine(rt, "Dumbo plain", &plain(Variant::Dumbo), 1)?;
+    measure_engine(rt, "Dumbo plain", &plain_of(Variant::Dumbo), 1)?;
     measure_engine(rt, "Dumbo circuit", &Circuit::Dumbo, 20)?;
-    measure_engine(rt, "Jumbo plain", &plain(Variant::Jumbo), 1)?;
+    measure_engine(rt, "Jumbo plain", &plain_of(Variant::Jumbo), 1)?;
     measure_engine(rt, "Jumbo circuit", &Circuit::Jumbo, 20)?;
-    measure_engine(rt, "Delirium plain", &plain(Variant::Delirium), 1)?;
+    measure_engine(rt, "Delirium plain", &plain_of(Variant::Delirium), 1)?;
     measure_engine(rt, "Delirium interleaved", &Interleaved, 20)?;
     println!(rt; "")?;
     println!(rt; "engine,text bytes,ns a seal call")?;

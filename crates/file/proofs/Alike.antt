@@ -4,9 +4,9 @@ use Rattle.std.proofs.lemmas.Bool.{lt-ltb, cases_lt, cond-true}
 use Rattle.std.proofs.lemmas.List.{take_all, length-take-le}
 use Rattle.room.specs.Sales.{Bytes}
 use Rattle.file.specs.Contents.{contents_in, with_envelopes, envelopes_in, sale_of_items, sale_or_fault, unknown_sale}
-use Rattle.file.specs.Form.{Items, broken, items}
+use Rattle.file.specs.Form.{Items, broken, items_from}
 use Rattle.file.specs.Sale.{Tells}
-use Rattle.file.specs.Lines.{most_bytes, lines}
+use Rattle.file.specs.Lines.{most_bytes, lines_in}
 use Rattle.file.specs.Report.{report_by, refusal_by}
 use Rattle.file.specs.declared.faults.FileFault.TheVariants.{TooLong}
 use Rattle.file.specs.declared.line.Section.TheVariants.{LotNames}
@@ -24,7 +24,7 @@ said_alike limit refused said file =
 
 pub contents_in-take : (file : Bytes) → contents_in (take (most_bytes + 1) file) ≡ contents_in file
 contents_in-take file =
-    ap (λ is. with_envelopes (envelopes_in is) (sale_or_fault (sale_of_items unknown_sale is))) (said_alike most_bytes (broken TooLong) (λ f. items LotNames 1 (lines f)) file)
+    ap (λ is. with_envelopes (envelopes_in is) (sale_or_fault (sale_of_items unknown_sale is))) (said_alike most_bytes (broken TooLong) (λ f. items_from LotNames 1 (lines_in f)) file)
 
 -- so what a report tells of the first bytes it tells of the whole
 pub tells_of_whole : (file : Bytes) (r : Report) → Tells (take (most_bytes + 1) file) r → Tells file r

@@ -10,7 +10,7 @@ use Rattle.list.specs.declared.faults.ListFault.{ListFault}
 use Rattle.room.specs.Sales.{Bytes, Sale}
 use Rattle.room.specs.declared.register.RegisterEntry.{RegisterEntry}
 use Rattle.file.specs.Contents.{Refusal, with_lot, with_register, and_then, enrolment, sale_of_items, unknown_sale}
-use Rattle.file.specs.Form.{Item, Items, broken, item, lot_item, bidder_item, envelope_item, passed, refused, line_must_be, line_must_say, bidder_line_item, envelope_line_item, lot_line_item, verdict_on, after_verdict, at_the_end, items}
+use Rattle.file.specs.Form.{Item, Items, broken, item, lot_item, bidder_item, envelope_item, passed, refused, line_must_be, line_must_say, bidder_line_item, envelope_line_item, lot_line_item, verdict_on, after_verdict, at_the_end, items_from}
 use Rattle.file.specs.Format.{Particulars, LawfulParticulars, LawfulBidder, LawfulEnvelope, hexadecimal, lot_line, bidder_line, lines_below, lines_of}
 use Rattle.file.specs.Lines.{Lines, finished, torn, line}
 use Rattle.file.specs.declared.faults.FileFault.{FileFault}
@@ -83,25 +83,25 @@ Unfinished Bidders = Unit {0}
 Unfinished EnvelopeNames = Unit {0}
 Unfinished Envelopes = ⊥
 
-unfinished : (sec : Section) (n : ℕ) → Unfinished sec → at_the_end sec n ≡ broken (Form n)
-unfinished LotNames n u = refl
-unfinished LotValues n u = refl
-unfinished LotEnd n u = refl
-unfinished BidderNames n u = refl
-unfinished FirstBidder n u = refl
-unfinished Bidders n u = refl
-unfinished EnvelopeNames n u = refl
-unfinished Envelopes n u = absurd u
+unfinished_is_broken : (sec : Section) (n : ℕ) → Unfinished sec → at_the_end sec n ≡ broken (Form n)
+unfinished_is_broken LotNames n u = refl
+unfinished_is_broken LotValues n u = refl
+unfinished_is_broken LotEnd n u = refl
+unfinished_is_broken BidderNames n u = refl
+unfinished_is_broken FirstBidder n u = refl
+unfinished_is_broken Bidders n u = refl
+unfinished_is_broken EnvelopeNames n u = refl
+unfinished_is_broken Envelopes n u = absurd u
 
 record OneMore (sec : Section) (n : ℕ) (ls : Lines) (s t : Sale) : Type 0 where
   first : Bytes
   rest : Lines
   are : ls ≡ line first rest
-  gathers : sale_of_items s (after_verdict (verdict_on sec n first) (λ next. items next (n + 1) rest)) ≡ Ok t
+  gathers : sale_of_items s (after_verdict (verdict_on sec n first) (λ next. items_from next (n + 1) rest)) ≡ Ok t
 
-one_more : (sec : Section) (n : ℕ) (ls : Lines) (s t : Sale) → Unfinished sec → sale_of_items s (items sec n ls) ≡ Ok t → OneMore sec n ls s t
-unfolding items
-one_more sec n finished s t u e = absurd (refused_gathers s t (Form n) (sym (ap (sale_of_items s) (unfinished sec n u)) ∙ e))
+one_more : (sec : Section) (n : ℕ) (ls : Lines) (s t : Sale) → Unfinished sec → sale_of_items s (items_from sec n ls) ≡ Ok t → OneMore sec n ls s t
+unfolding items_from
+one_more sec n finished s t u e = absurd (refused_gathers s t (Form n) (sym (ap (sale_of_items s) (unfinished_is_broken sec n u)) ∙ e))
 one_more sec n torn s t u e = absurd (refused_gathers s t (Form n) e)
 one_more sec n (line l ls) s t u e = record { first = l; rest = ls; are = refl; gathers = e }
 
@@ -111,24 +111,24 @@ record EnvelopesRead (above : List Bytes) (ls : Lines) : Type 0 where
   are : ls ≡ lines_as (above ++ map hexadecimal envelopes)
   lawful : AllByRecursion LawfulEnvelope envelopes
 
-read_envelopes : (ls : Lines) (n : ℕ) (s t : Sale) → sale_of_items s (items Envelopes n ls) ≡ Ok t → EnvelopesRead [] ls
-unfolding items
+read_envelopes : (ls : Lines) (n : ℕ) (s t : Sale) → sale_of_items s (items_from Envelopes n ls) ≡ Ok t → EnvelopesRead [] ls
+unfolding items_from
 read_envelopes finished n s t e = record { envelopes = []; are = refl; lawful = tt }
 read_envelopes torn n s t e = absurd (refused_gathers s t (Form n) e)
 read_envelopes (line l ls) n s t e =
-    let w = say_read (envelope_line_item n l) Envelopes (λ next. items next (n + 1) ls) s t e in
+    let w = say_read (envelope_line_item n l) Envelopes (λ next. items_from next (n + 1) ls) s t e in
     let r = envelope_written n l w.0 w.1 in
-    let k = read_envelopes ls (n + 1) s t (envelope_gathers n (hexadecimal r.envelope) w.0 (items Envelopes (n + 1) ls) s t r.says w.2) in
+    let k = read_envelopes ls (n + 1) s t (envelope_gathers n (hexadecimal r.envelope) w.0 (items_from Envelopes (n + 1) ls) s t r.says w.2) in
     record {
       envelopes = r.envelope ∷ k.envelopes;
       are = ap (λ z. line z ls) r.is ∙ ap (line (hexadecimal r.envelope)) k.are;
       lawful = (r.lawful, k.lawful);
     }
 
-read_names : (ls : Lines) (n : ℕ) (s t : Sale) → sale_of_items s (items EnvelopeNames n ls) ≡ Ok t → EnvelopesRead (codes "envelope" ∷ []) ls
+read_names : (ls : Lines) (n : ℕ) (s t : Sale) → sale_of_items s (items_from EnvelopeNames n ls) ≡ Ok t → EnvelopesRead (codes "envelope" ∷ []) ls
 read_names ls n s t e =
     let m = one_more EnvelopeNames n ls s t tt e in
-    let w = text_read (codes "envelope") Envelopes n m.first (λ next. items next (n + 1) m.rest) s t m.gathers in
+    let w = text_read (codes "envelope") Envelopes n m.first (λ next. items_from next (n + 1) m.rest) s t m.gathers in
     let k = read_envelopes m.rest (n + 1) s t w.1 in
     record { envelopes = k.envelopes; are = m.are ∙ ap (λ z. line z m.rest) w.0 ∙ ap (line (codes "envelope")) k.are; lawful = k.lawful }
 
@@ -142,16 +142,16 @@ record BiddersRead (xs : List RegisterEntry) (ls : Lines) : Type 0 where
   lawful_envelopes : AllByRecursion LawfulEnvelope envelopes
 
 Rest : Lines → ℕ → Sale → Type 0
-Rest ls n t = (s : Sale) → sale_of_items s (items Bidders n ls) ≡ Ok t → BiddersRead s.register ls
+Rest ls n t = (s : Sale) → sale_of_items s (items_from Bidders n ls) ≡ Ok t → BiddersRead s.register ls
 
 bidder_more : (l : Bytes) (ls : Lines) (n : ℕ) (s t : Sale) → Rest ls (n + 1) t
-    → sale_of_items s (after_verdict (line_must_say (bidder_line_item n l) Bidders) (λ next. items next (n + 1) ls)) ≡ Ok t
+    → sale_of_items s (after_verdict (line_must_say (bidder_line_item n l) Bidders) (λ next. items_from next (n + 1) ls)) ≡ Ok t
     → (r : BiddersRead s.register (line l ls)) × (1 ≤ length r.bidders)
 unfolding Rest
 bidder_more l ls n s t more e =
-    let w = say_read (bidder_line_item n l) Bidders (λ next. items next (n + 1) ls) s t e in
+    let w = say_read (bidder_line_item n l) Bidders (λ next. items_from next (n + 1) ls) s t e in
     let b = bidder_written n l w.0 w.1 in
-    let g = bidder_gathers n b.entry w.0 (items Bidders (n + 1) ls) s t b.lawful b.says w.2 in
+    let g = bidder_gathers n b.entry w.0 (items_from Bidders (n + 1) ls) s t b.lawful b.says w.2 in
     let k = more (with_register (list_with order b.entry s.register) s) g.2 in (
       record {
         bidders = b.entry ∷ k.bidders;
@@ -165,7 +165,7 @@ bidder_more l ls n s t more e =
     )
 
 bidders_by : (l : Bytes) (ls : Lines) (n : ℕ) (s t : Sale) (b : Bool) → bytes_eq l [] ≡ b → Rest ls (n + 1) t
-    → sale_of_items s (after_verdict (cond b (passed EnvelopeNames) (line_must_say (bidder_line_item n l) Bidders)) (λ next. items next (n + 1) ls)) ≡ Ok t
+    → sale_of_items s (after_verdict (cond b (passed EnvelopeNames) (line_must_say (bidder_line_item n l) Bidders)) (λ next. items_from next (n + 1) ls)) ≡ Ok t
     → BiddersRead s.register (line l ls)
 bidders_by l ls n s t true h more e =
     let k = read_names ls (n + 1) s t e in
@@ -179,15 +179,15 @@ bidders_by l ls n s t true h more e =
     }
 bidders_by l ls n s t false h more e = (bidder_more l ls n s t more e).0
 
-read_bidders : (ls : Lines) (n : ℕ) (t s : Sale) → sale_of_items s (items Bidders n ls) ≡ Ok t → BiddersRead s.register ls
-unfolding items Rest
+read_bidders : (ls : Lines) (n : ℕ) (t s : Sale) → sale_of_items s (items_from Bidders n ls) ≡ Ok t → BiddersRead s.register ls
+unfolding items_from Rest
 read_bidders finished n t s e = absurd (refused_gathers s t (Form n) e)
 read_bidders torn n t s e = absurd (refused_gathers s t (Form n) e)
 read_bidders (line l ls) n t s e = bidders_by l ls n s t (bytes_eq l []) refl (read_bidders ls (n + 1) t) e
 
-read_first : (ls : Lines) (n : ℕ) (s t : Sale) → sale_of_items s (items FirstBidder n ls) ≡ Ok t
+read_first : (ls : Lines) (n : ℕ) (s t : Sale) → sale_of_items s (items_from FirstBidder n ls) ≡ Ok t
     → (r : BiddersRead s.register ls) × (1 ≤ length r.bidders)
-unfolding items Rest
+unfolding items_from Rest
 read_first finished n s t e = absurd (refused_gathers s t (Form n) e)
 read_first torn n s t e = absurd (refused_gathers s t (Form n) e)
 read_first (line l ls) n s t e = bidder_more l ls n s t (read_bidders ls (n + 1) t) e
@@ -198,18 +198,18 @@ pub record Read (ls : Lines) : Type 0 where
   pub lawful : LawfulParticulars particulars
   pub are : ls ≡ lines_as (lines_of particulars)
 
-pub read_all : (ls : Lines) (t : Sale) → NoTens ls → sale_of_items unknown_sale (items LotNames 1 ls) ≡ Ok t → Read ls
+pub read_all : (ls : Lines) (t : Sale) → NoTens ls → sale_of_items unknown_sale (items_from LotNames 1 ls) ≡ Ok t → Read ls
 read_all ls t clean e =
     let a = one_more LotNames 1 ls unknown_sale t tt e in
-    let a₁ = text_read (codes "lot,variant,terms") LotValues 1 a.first (λ next. items next 2 a.rest) unknown_sale t a.gathers in
+    let a₁ = text_read (codes "lot,variant,terms") LotValues 1 a.first (λ next. items_from next 2 a.rest) unknown_sale t a.gathers in
     let b = one_more LotValues 2 a.rest unknown_sale t tt a₁.1 in
-    let b₁ = say_read (lot_line_item 2 b.first) LotEnd (λ next. items next 3 b.rest) unknown_sale t b.gathers in
+    let b₁ = say_read (lot_line_item 2 b.first) LotEnd (λ next. items_from next 3 b.rest) unknown_sale t b.gathers in
     let lot = lot_written 2 b.first b₁.0 b₁.1 in
     let s = with_lot lot.lot lot.variant lot.terms unknown_sale in
-    let c = one_more LotEnd 3 b.rest s t tt (lot_gathers lot.lot lot.variant lot.terms b₁.0 (items LotEnd 3 b.rest) unknown_sale t lot.says b₁.2) in
-    let c₁ = text_read [] BidderNames 3 c.first (λ next. items next 4 c.rest) s t c.gathers in
+    let c = one_more LotEnd 3 b.rest s t tt (lot_gathers lot.lot lot.variant lot.terms b₁.0 (items_from LotEnd 3 b.rest) unknown_sale t lot.says b₁.2) in
+    let c₁ = text_read [] BidderNames 3 c.first (λ next. items_from next 4 c.rest) s t c.gathers in
     let d = one_more BidderNames 4 c.rest s t tt c₁.1 in
-    let d₁ = text_read (codes "bidder,key") FirstBidder 4 d.first (λ next. items next 5 d.rest) s t d.gathers in
+    let d₁ = text_read (codes "bidder,key") FirstBidder 4 d.first (λ next. items_from next 5 d.rest) s t d.gathers in
     let f = read_first d.rest 5 s t d₁.1 in
     let r = f.0 in
     let p : Particulars = record { lot = lot.lot; variant = lot.variant; terms = lot.terms; bidders = r.bidders; envelopes = r.envelopes } in

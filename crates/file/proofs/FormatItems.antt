@@ -9,11 +9,11 @@ use Rattle.list.specs.Order.{by_key}
 use Rattle.room.specs.Sales.{Bytes, Sale}
 use Rattle.room.specs.declared.register.RegisterEntry.{RegisterEntry}
 use Rattle.file.specs.Contents.{Refusal, with_register, and_then, enrolment, sale_of_items, envelopes_in}
-use Rattle.file.specs.Form.{Item, Items, end, item, lot_item, bidder_item, envelope_item, passed, line_must_say, bidder_line_item, after_verdict, items}
+use Rattle.file.specs.Form.{Item, Items, end, item, lot_item, bidder_item, envelope_item, passed, line_must_say, bidder_line_item, after_verdict, items_from}
 use Rattle.file.specs.Format.{Particulars, LawfulParticulars, LawfulBidder, LawfulEnvelope, hexadecimal, bidder_line, lines_below, lines_of, file_of}
 use Rattle.file.specs.FormatLaws.{sent_from}
 use Rattle.file.specs.Hexadecimal.{written_bytes}
-use Rattle.file.specs.Lines.{lines}
+use Rattle.file.specs.Lines.{lines_in}
 use Rattle.file.specs.declared.faults.FileFault.{FileFault}
 use Rattle.file.specs.declared.line.Section.{Section}
 use Rattle.file.specs.declared.line.Section.TheVariants.{LotNames, LotEnd, FirstBidder, Bidders, EnvelopeNames, Envelopes}
@@ -40,11 +40,11 @@ said_line : (r : Result Item FileFault) (i : Item) (next : Section) (go_on : Sec
 said_line r i next go_on e = rw e refl
 
 envelopes_said : (n : ℕ) (es : List Bytes) → AllByRecursion LawfulEnvelope es
-    → items Envelopes n (lines_as (map hexadecimal es)) ≡ envelope_items n es
-unfolding items
+    → items_from Envelopes n (lines_as (map hexadecimal es)) ≡ envelope_items n es
+unfolding items_from
 envelopes_said n [] h = refl
 envelopes_said n (e ∷ es) h =
-    said_line _ (envelope_item n (hexadecimal e)) Envelopes (λ next. items next (n + 1) (lines_as (map hexadecimal es))) (envelope_read n e h.0)
+    said_line _ (envelope_item n (hexadecimal e)) Envelopes (λ next. items_from next (n + 1) (lines_as (map hexadecimal es))) (envelope_read n e h.0)
     ∙ ap (item (envelope_item n (hexadecimal e))) (envelopes_said (n + 1) es h.1)
 
 bidder_no_end : (e : RegisterEntry) → bytes_eq (bidder_line e) [] ≡ false
@@ -57,11 +57,11 @@ cond_other : {X : Type 0} (t : Bool) (x y : X) → t ≡ false → cond t x y �
 cond_other t x y e = rw e refl
 
 bidders_said : (n : ℕ) (bs : List RegisterEntry) (es : List Bytes) → AllByRecursion LawfulBidder bs → AllByRecursion LawfulEnvelope es
-    → items Bidders n (lines_as (lines_below bs es)) ≡ bidder_items n bs es
-unfolding items
+    → items_from Bidders n (lines_as (lines_below bs es)) ≡ bidder_items n bs es
+unfolding items_from
 bidders_said n [] es h k = envelopes_said (n + 1 + 1) es k
 bidders_said n (b ∷ bs) es h k =
-    let go_on : Section → Items = λ next. items next (n + 1) (lines_as (lines_below bs es)) in
+    let go_on : Section → Items = λ next. items_from next (n + 1) (lines_as (lines_below bs es)) in
     ap (λ v. after_verdict v go_on)
     (cond_other (bytes_eq (bidder_line b) []) (passed EnvelopeNames) (line_must_say (bidder_line_item n (bidder_line b)) Bidders) (bidder_no_end b))
     ∙ said_line _ (bidder_item n b.bidder (hexadecimal b.key)) Bidders go_on (bidder_read n b h.0)
@@ -69,18 +69,18 @@ bidders_said n (b ∷ bs) es h k =
 
 first_said : (n : ℕ) (bs : List RegisterEntry) (es : List Bytes) → 1 ≤ length bs → AllByRecursion LawfulBidder bs
     → AllByRecursion LawfulEnvelope es
-    → items FirstBidder n (lines_as (lines_below bs es)) ≡ bidder_items n bs es
-unfolding items
+    → items_from FirstBidder n (lines_as (lines_below bs es)) ≡ bidder_items n bs es
+unfolding items_from
 first_said n [] es l h k = absurd (omega arith)
 first_said n (b ∷ bs) es l h k =
-    said_line _ (bidder_item n b.bidder (hexadecimal b.key)) Bidders (λ next. items next (n + 1) (lines_as (lines_below bs es))) (bidder_read n b h.0)
+    said_line _ (bidder_item n b.bidder (hexadecimal b.key)) Bidders (λ next. items_from next (n + 1) (lines_as (lines_below bs es))) (bidder_read n b h.0)
     ∙ ap (item (bidder_item n b.bidder (hexadecimal b.key))) (bidders_said (n + 1) bs es h.1 k)
 
 module _ (p : Particulars) (h : LawfulParticulars p) where
-  pub lines_said : items LotNames 1 (lines_as (lines_of p)) ≡ items_of p
-  unfolding items
+  pub lines_said : items_from LotNames 1 (lines_as (lines_of p)) ≡ items_of p
+  unfolding items_from
   lines_said =
-      said_line _ (lot_item p.lot p.variant p.terms) LotEnd (λ next. items next 3 (lines_as ([] ∷ codes "bidder,key" ∷ lines_below p.bidders p.envelopes)))
+      said_line _ (lot_item p.lot p.variant p.terms) LotEnd (λ next. items_from next 3 (lines_as ([] ∷ codes "bidder,key" ∷ lines_below p.bidders p.envelopes)))
       (lot_read 2 p.lot p.variant p.terms h.lot h.short)
       ∙ ap (item (lot_item p.lot p.variant p.terms)) (first_said 5 p.bidders p.envelopes h.some h.bidders h.envelopes)
 
@@ -102,8 +102,8 @@ module _ (p : Particulars) (h : LawfulParticulars p) where
   )
 
   -- what the file says
-  pub file_said : items LotNames 1 (lines (file_of p)) ≡ items_of p
-  file_said = ap (items LotNames 1) (lines-text_of (lines_of p) clean_lines) ∙ lines_said
+  pub file_said : items_from LotNames 1 (lines_in (file_of p)) ≡ items_of p
+  file_said = ap (items_from LotNames 1) (lines-text_of (lines_of p) clean_lines) ∙ lines_said
 
 -- what is gathered from them
 pub envelopes_gathered : (s : Sale) (n : ℕ) (es : List Bytes) → sale_of_items s (envelope_items n es) ≡ Ok s

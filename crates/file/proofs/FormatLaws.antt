@@ -8,11 +8,11 @@ use Rattle.list.proofs.Laws.{rising_empty}
 use Rattle.room.specs.Sales.{Bytes, Sale}
 use Rattle.room.specs.declared.register.RegisterEntry.{RegisterEntry}
 use Rattle.file.specs.Contents.{FileContents, Sent, with_envelopes, with_lot, with_register, sale_of_items, sale_or_fault, envelopes_in, unknown_sale, items_in, sale_in, contents_in}
-use Rattle.file.specs.Form.{Items, end, broken, item, lot_item, bidder_item, envelope_item, items}
+use Rattle.file.specs.Form.{Items, end, broken, item, lot_item, bidder_item, envelope_item, items_from}
 use Rattle.file.specs.Format.{Particulars, LawfulParticulars, LawfulBidder, LawfulEnvelope, lines_of, file_of}
 use Rattle.file.specs.FormatLaws.{IsAccepted, IsOfFormat, ContentsOf}
 use Rattle.file.specs.Hexadecimal.{written_bytes}
-use Rattle.file.specs.Lines.{most_bytes, lines}
+use Rattle.file.specs.Lines.{most_bytes, lines_in}
 use Rattle.file.specs.declared.faults.FileFault.{FileFault}
 use Rattle.file.specs.declared.faults.FileFault.TheVariants.{TooLong}
 use Rattle.file.specs.declared.line.Section.TheVariants.{LotNames}
@@ -35,16 +35,16 @@ short_by true is s e = absurd (let z : ◌≡◌ {A = ℕ} 0 1 = cc in omega ari
 short_by false is s e = (refl, e)
 
 accepted_by : (file : Bytes) (c : FileContents) → contents_in file ≡ Ok c
-    → (length file ≤ most_bytes) × (sale_of_items unknown_sale (items LotNames 1 (lines file)) ≡ Ok c.sale)
+    → (length file ≤ most_bytes) × (sale_of_items unknown_sale (items_from LotNames 1 (lines_in file)) ≡ Ok c.sale)
 accepted_by file c e =
-    let k = short_by (ltb most_bytes (length file)) (items LotNames 1 (lines file)) c.sale (accepted_gathers file c.sale (contents_by (envelopes_in (items_in file)) (sale_in file) c e)) in
+    let k = short_by (ltb most_bytes (length file)) (items_from LotNames 1 (lines_in file)) c.sale (accepted_gathers file c.sale (contents_by (envelopes_in (items_in file)) (sale_in file) c e)) in
     (ltb-false most_bytes (length file) k.0, k.1)
 
 -- an accepted file is of the format
 pub is_of_format : (file : Bytes) → IsAccepted file → IsOfFormat file
 is_of_format file (c, e) =
     let k = accepted_by file c e in
-    let r = read_all (lines file) c.sale (no_tens file) k.1 in
+    let r = read_all (lines_in file) c.sale (no_tens file) k.1 in
     (k.0, (r.particulars, r.lawful, text_back file (lines_of r.particulars) r.are))
 
 -- what a file of the format gives
@@ -65,7 +65,7 @@ module _ (p : Particulars) (h : LawfulParticulars p) where
   file_gives : length (file_of p) ≤ most_bytes → contents_in (file_of p) ≡ Ok given
   file_gives l =
       let said : items_in (file_of p) ≡ items_of p =
-      ap (λ t. cond t (broken TooLong) (items LotNames 1 (lines (file_of p)))) (le-ltb most_bytes (length (file_of p)) l) ∙ file_said p h in
+      ap (λ t. cond t (broken TooLong) (items_from LotNames 1 (lines_in (file_of p)))) (le-ltb most_bytes (length (file_of p)) l) ∙ file_said p h in
       ap (λ is. with_envelopes (envelopes_in is) (sale_or_fault (sale_of_items unknown_sale is))) said
       ∙ ap (λ r. with_envelopes (envelopes_in (items_of p)) (sale_or_fault r)) given_gathered
 
@@ -133,7 +133,7 @@ all_envelopes_are : (n : ℕ) (bs : List RegisterEntry) (es : List Bytes) → Al
 all_envelopes_are n [] es h = envelopes_are (n + 1 + 1) es h
 all_envelopes_are n (b ∷ bs) es h = all_envelopes_are (n + 1) bs es h
 
-particulars_are : (p : Particulars) → LawfulParticulars p → particulars_out (items LotNames 1 (lines (file_of p))) ≡ p
+particulars_are : (p : Particulars) → LawfulParticulars p → particulars_out (items_from LotNames 1 (lines_in (file_of p))) ≡ p
 particulars_are p h =
     ap particulars_out (file_said p h)
     ∙ ap (λ bs. record { lot = p.lot; variant = p.variant; terms = p.terms; bidders = bs; envelopes = envelopes_out (bidder_items 5 p.bidders p.envelopes) })
@@ -143,4 +143,4 @@ particulars_are p h =
 
 pub written_alike : (p q : Particulars) → LawfulParticulars p → LawfulParticulars q → file_of p ≡ file_of q → p ≡ q
 written_alike p q h k e =
-    sym (particulars_are p h) ∙ ap (λ f. particulars_out (items LotNames 1 (lines f))) e ∙ particulars_are q k
+    sym (particulars_are p h) ∙ ap (λ f. particulars_out (items_from LotNames 1 (lines_in f))) e ∙ particulars_are q k

@@ -86,10 +86,10 @@ module _ (v : Variant) (s : Sale) (es : List Sent) (of : v ≡ s.variant) (befor
         → out''' ≡ accepted_report whole
     unfolding answer_lines
     all_printed out'' out''' a b c =
-        let lines = answer_lines (room_of_sale s) es in
-        let lodged_lines : out' ≡ codes "line,answer\n" ++ lines =
+        let lines_in = answer_lines (room_of_sale s) es in
+        let lodged_lines : out' ≡ codes "line,answer\n" ++ lines_in =
         sym (append-nil out') ∙ g.prints ∙ ap (λ z. z ++ answer_lines (contents_of v start) es) a ∙ ap (λ r. codes "line,answer\n" ++ answer_lines r es) start_is in
         c ∙ ap (λ z. z ++ page_of_room (contents_of v room)) (b ∙ ap (λ z. z ++ codes "\n") lodged_lines)
-        ∙ ap (λ p. ((codes "line,answer\n" ++ lines) ++ codes "\n") ++ p) page_is
-        ∙ append_assoc (codes "line,answer\n" ++ lines) (codes "\n") (page_in whole)
-        ∙ append_assoc (codes "line,answer\n") lines (codes "\n" ++ page_in whole)
+        ∙ ap (λ p. ((codes "line,answer\n" ++ lines_in) ++ codes "\n") ++ p) page_is
+        ∙ append_assoc (codes "line,answer\n" ++ lines_in) (codes "\n") (page_in whole)
+        ∙ append_assoc (codes "line,answer\n") lines_in (codes "\n" ++ page_in whole)

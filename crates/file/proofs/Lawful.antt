@@ -12,12 +12,12 @@ use Rattle.room.specs.declared.register.RegisterEntry.{RegisterEntry}
 use Rattle.room.specs.Sales.{Bytes, Sale}
 use Rattle.file.specs.Contents.{Refusal, with_lot, with_register, and_then, enrolment, sale_of_items, sale_or_fault, items_in, sale_in, unknown_sale}
 use Rattle.file.specs.Fields.{holds_comma, field, behind}
-use Rattle.file.specs.Form.{Items, end, broken, item, lot_item, bidder_item, envelope_item, items, Verdict, refused, passed, said, line_must_say, lot_values, variant_of, bidder_values, is_key, verdict_on, after_verdict, at_the_end}
+use Rattle.file.specs.Form.{Items, end, broken, item, lot_item, bidder_item, envelope_item, items_from, Verdict, refused, passed, said, line_must_say, lot_values, variant_of, bidder_values, is_key, verdict_on, after_verdict, at_the_end}
 use Rattle.file.specs.Numbers.{number_of}
 use Rattle.file.specs.steps.Sale.{IsUnbroken}
 use Rattle.file.specs.Theorems.{AcceptedFilesKeepLimits}
 use Rattle.file.specs.Hexadecimal.{written_bytes}
-use Rattle.file.specs.Lines.{most_bytes, Lines, finished, torn, line, lines}
+use Rattle.file.specs.Lines.{most_bytes, Lines, finished, torn, line, lines_in}
 use Rattle.file.specs.declared.faults.FileFault.TheVariants.{TooLong, Form, TermsLength}
 use Rattle.file.specs.declared.line.Section.{Section}
 use Rattle.file.specs.declared.line.Section.TheVariants.{LotNames, LotValues, LotEnd, BidderNames, FirstBidder, Bidders, EnvelopeNames, Envelopes}
@@ -111,15 +111,15 @@ leads_bidder n true (Some b) key = cond_both (is_key key) (Ok (bidder_item n b k
 leads_bidder n true None key = tt
 leads_bidder n false o key = tt
 
-leads : (s : Section) (n : ℕ) (l : List ℕ) → Early s → Leads (verdict_on s n l)
-leads LotNames n l h = cond_both (bytes_eq l (codes "lot,variant,terms")) (passed LotValues) (refused (Form n)) Leads (λ e. tt) (λ e. tt)
-leads LotValues n l h = leads_lot n (holds_comma l && holds_comma (behind l)) (number_of (field l)) (variant_of (field (behind l))) (behind (behind l))
-leads LotEnd n l h = cond_both (bytes_eq l []) (passed BidderNames) (refused (Form n)) Leads (λ e. tt) (λ e. tt)
-leads BidderNames n l h = cond_both (bytes_eq l (codes "bidder,key")) (passed FirstBidder) (refused (Form n)) Leads (λ e. tt) (λ e. tt)
-leads FirstBidder n l h = leads_bidder n (holds_comma l) (number_of (field l)) (behind l)
-leads Bidders n l h = absurd h
-leads EnvelopeNames n l h = absurd h
-leads Envelopes n l h = absurd h
+verdict_leads : (s : Section) (n : ℕ) (l : List ℕ) → Early s → Leads (verdict_on s n l)
+verdict_leads LotNames n l h = cond_both (bytes_eq l (codes "lot,variant,terms")) (passed LotValues) (refused (Form n)) Leads (λ e. tt) (λ e. tt)
+verdict_leads LotValues n l h = leads_lot n (holds_comma l && holds_comma (behind l)) (number_of (field l)) (variant_of (field (behind l))) (behind (behind l))
+verdict_leads LotEnd n l h = cond_both (bytes_eq l []) (passed BidderNames) (refused (Form n)) Leads (λ e. tt) (λ e. tt)
+verdict_leads BidderNames n l h = cond_both (bytes_eq l (codes "bidder,key")) (passed FirstBidder) (refused (Form n)) Leads (λ e. tt) (λ e. tt)
+verdict_leads FirstBidder n l h = leads_bidder n (holds_comma l) (number_of (field l)) (behind l)
+verdict_leads Bidders n l h = absurd h
+verdict_leads EnvelopeNames n l h = absurd h
+verdict_leads Envelopes n l h = absurd h
 
 after_leads : (v : Verdict) (go_on : Section → Items) (s t : Sale) → Leads v
     → ((next : Section) (u : Sale) → Early next → sale_of_items u (go_on next) ≡ Ok t → 1 ≤ length t.register) → sale_of_items s (after_verdict v go_on) ≡ Ok t → 1 ≤ length t.register
@@ -143,12 +143,12 @@ end_early Bidders n s t h e = h
 end_early EnvelopeNames n s t h e = h
 end_early Envelopes n s t h e = h
 
-some_bidder : (ls : Lines) (sec : Section) (n : ℕ) (s t : Sale) → Early sec → sale_of_items s (items sec n ls) ≡ Ok t → 1 ≤ length t.register
-unfolding sale_of_items items
+some_bidder : (ls : Lines) (sec : Section) (n : ℕ) (s t : Sale) → Early sec → sale_of_items s (items_from sec n ls) ≡ Ok t → 1 ≤ length t.register
+unfolding sale_of_items items_from
 some_bidder finished sec n s t h e = absurd (end_early sec n s t h e)
 some_bidder torn sec n s t h e = absurd (let z : ◌≡◌ {A = ℕ} 0 1 = cc in omega arith)
 some_bidder (line l ls) sec n s t h e =
-    after_leads (verdict_on sec n l) (λ next. items next (n + 1) ls) s t (leads sec n l h) (λ next u k g. some_bidder ls next (n + 1) u t k g) e
+    after_leads (verdict_on sec n l) (λ next. items_from next (n + 1) ls) s t (verdict_leads sec n l h) (λ next u k g. some_bidder ls next (n + 1) u t k g) e
 
 -- an accepted file is gathered to its end
 gathered_back : (r : Result Sale Refusal) (s : Sale) → sale_or_fault r ≡ Ok s → r ≡ Ok s
@@ -176,11 +176,11 @@ accepted_unbroken file s e = gathered_unbroken (items_in file) unknown_sale s (a
 said_some : (file : Bytes) (s : Sale) → sale_of_items unknown_sale (items_in file) ≡ Ok s → 1 ≤ length s.register
 unfolding sale_of_items
 said_some file s =
-    cond_both (ltb most_bytes (length file)) (broken TooLong) (items LotNames 1 (lines file)) (λ is. sale_of_items unknown_sale is ≡ Ok s → 1 ≤ length s.register)
-    (λ p e. absurd (let z : ◌≡◌ {A = ℕ} 0 1 = cc in omega arith)) (λ p e. some_bidder (lines file) LotNames 1 unknown_sale s tt e)
+    cond_both (ltb most_bytes (length file)) (broken TooLong) (items_from LotNames 1 (lines_in file)) (λ is. sale_of_items unknown_sale is ≡ Ok s → 1 ≤ length s.register)
+    (λ p e. absurd (let z : ◌≡◌ {A = ℕ} 0 1 = cc in omega arith)) (λ p e. some_bidder (lines_in file) LotNames 1 unknown_sale s tt e)
 
 said_well_formed : (file : Bytes) → AllWellFormed (items_in file)
-said_well_formed file = cond_both (ltb most_bytes (length file)) (broken TooLong) (items LotNames 1 (lines file)) AllWellFormed (λ e. tt) (λ e. items_well_formed LotNames 1 (lines file))
+said_well_formed file = cond_both (ltb most_bytes (length file)) (broken TooLong) (items_from LotNames 1 (lines_in file)) AllWellFormed (λ e. tt) (λ e. items_well_formed LotNames 1 (lines_in file))
 
 -- the sale of a file that is accepted
 pub accepted_keeps_limits : AcceptedFilesKeepLimits

@@ -11,7 +11,7 @@ use Rattle.room.specs.declared.register.RegisterEntry.{RegisterEntry}
 use Rattle.file.specs.Contents.{Refusal, with_lot, with_register, and_then, enrolment, sale_of_items}
 use Rattle.file.specs.Faults.{line_of}
 use Rattle.file.specs.Fields.{place_of, holds_comma, field, behind}
-use Rattle.file.specs.Form.{Items, lot_item, bidder_item, envelope_item, variant_of, lot_values, is_key, bidder_values, bidder_line_item, is_envelope, Verdict, passed, refused, said, line_must_be, line_must_say, verdict_on, after_verdict, at_the_end, items}
+use Rattle.file.specs.Form.{Items, lot_item, bidder_item, envelope_item, variant_of, lot_values, is_key, bidder_values, bidder_line_item, is_envelope, Verdict, passed, refused, said, line_must_be, line_must_say, verdict_on, after_verdict, at_the_end, items_from}
 use Rattle.file.specs.Format.{LawfulBidder, bidder_line}
 use Rattle.file.specs.FormatLaws.{IsRefusedThough}
 use Rattle.file.specs.Hexadecimal.{all_hex_digits, written_bytes}
@@ -81,19 +81,19 @@ onward_bidder sec n l =
     let r = bidder_written n l (bidder_item n b (behind l)) (bidder_by n b (behind l) (holds_comma l) (number_of (field l)) (behind l) t o refl k) in
     (r.entry, r.lawful, r.is))
 
-onward : (sec : Section) (n : ℕ) (l : Bytes) → Onward sec n l (verdict_on sec n l)
-onward LotNames n l = onward_text LotNames (codes "lot,variant,terms") LotValues n l (λ u. tt)
-onward LotValues n l =
+verdict_goes_onward : (sec : Section) (n : ℕ) (l : Bytes) → Onward sec n l (verdict_on sec n l)
+verdict_goes_onward LotNames n l = onward_text LotNames (codes "lot,variant,terms") LotValues n l (λ u. tt)
+verdict_goes_onward LotValues n l =
     onward_lot n l (holds_comma l && holds_comma (behind l)) (number_of (field l)) (variant_of (field (behind l))) (behind (behind l))
     (λ lot v t o w long. let is = lot_is l lot v t o w in (lot, v, behind (behind l), is.0, is.1, long))
-onward LotEnd n l = onward_text LotEnd [] BidderNames n l (λ u. tt)
-onward BidderNames n l = onward_text BidderNames (codes "bidder,key") FirstBidder n l (λ u. tt)
-onward FirstBidder n l = onward_bidder FirstBidder n l
-onward Bidders n l =
+verdict_goes_onward LotEnd n l = onward_text LotEnd [] BidderNames n l (λ u. tt)
+verdict_goes_onward BidderNames n l = onward_text BidderNames (codes "bidder,key") FirstBidder n l (λ u. tt)
+verdict_goes_onward FirstBidder n l = onward_bidder FirstBidder n l
+verdict_goes_onward Bidders n l =
     cond_both (bytes_eq l []) (passed EnvelopeNames) (line_must_say (bidder_line_item n l) Bidders) (Onward Bidders n l) (λ e. λ u. u)
     (λ e. onward_bidder Bidders n l)
-onward EnvelopeNames n l = onward_text EnvelopeNames (codes "envelope") Envelopes n l (λ u. u)
-onward Envelopes n l =
+verdict_goes_onward EnvelopeNames n l = onward_text EnvelopeNames (codes "envelope") Envelopes n l (λ u. u)
+verdict_goes_onward Envelopes n l =
     cond_both (is_envelope l) (Ok (envelope_item n l)) (Err (Form n)) (λ r. Onward Envelopes n l (line_must_say r Envelopes)) (λ e. λ u. u)
     (λ e. (refl, inl refl))
 
@@ -115,7 +115,7 @@ record Closes (sec : Section) (n : ℕ) (s : Sale) : Type 0 where
   more : List Bytes
   clean : AllByRecursion (Without 10) more
   sale : Sale
-  gathers : sale_of_items s (items sec n (lines_as more)) ≡ Ok sale
+  gathers : sale_of_items s (items_from sec n (lines_as more)) ≡ Ok sale
 
 clean_text : (text : Bytes) → AllByRecursion (λ c. 44 ≤ c) text → Without 10 text
 clean_text text h = without_above 10 44 text (omega arith) h
@@ -141,7 +141,7 @@ clean_closing LotNames = (clean_text (codes "lot,variant,terms") (search rules),
 
 closes_early : (sec : Section) (n lot : ℕ) (v : Variant) (terms : Bytes) → Early sec
     → Closes sec n (record { variant = v; lot = lot; terms = terms; register = [] })
-unfolding sale_of_items items place_of number_of value_of value_after all_digits all_hex_digits written_bytes has_equal list_with count_ahead
+unfolding sale_of_items items_from place_of number_of value_of value_after all_digits all_hex_digits written_bytes has_equal list_with count_ahead
 closes_early LotNames n lot v terms u = record { more = closing LotNames; clean = clean_closing LotNames; sale = _; gathers = refl }
 closes_early LotValues n lot v terms u = record { more = closing LotValues; clean = clean_closing LotValues; sale = _; gathers = refl }
 closes_early LotEnd n lot v terms u = record { more = closing LotEnd; clean = clean_closing LotEnd; sale = _; gathers = refl }
@@ -157,7 +157,7 @@ closes_with sec n s u e =
     (closes_early sec n s.lot s.variant s.terms u)
 
 closes : (sec : Section) (n : ℕ) (s : Sale) → (Early sec → s.register ≡ []) → Closes sec n s
-unfolding sale_of_items items
+unfolding sale_of_items items_from
 closes LotNames n s h = closes_with LotNames n s tt (h tt)
 closes LotValues n s h = closes_with LotValues n s tt (h tt)
 closes LotEnd n s h = closes_with LotEnd n s tt (h tt)
@@ -193,13 +193,13 @@ pub record LeftAt (sec : Section) (n : ℕ) (s : Sale) (ls : Lines) (stop : Refu
   pub clean : AllByRecursion (Without 10) more
   pub sale : Sale
   pub why : Why stop.fault rest
-  pub completes : sale_of_items s (items sec n (lines_as (above ++ more))) ≡ Ok sale
+  pub completes : sale_of_items s (items_from sec n (lines_as (above ++ more))) ≡ Ok sale
   pub stuck : (l : Bytes) (ls' : Lines) → rest ≡ line l ls' → (m : List Bytes)
-      → sale_of_items s (items sec n (lines_as (above ++ (l ∷ m)))) ≡ Err stop
+      → sale_of_items s (items_from sec n (lines_as (above ++ (l ∷ m)))) ≡ Err stop
 
 stops_here : (sec : Section) (n : ℕ) (s : Sale) (ls : Lines) (stop : Refusal) → (Early sec → s.register ≡ []) → line_of stop.fault ≡ n
     → Why stop.fault ls
-    → ((l : Bytes) (ls' : Lines) → ls ≡ line l ls' → (m : List Bytes) → sale_of_items s (items sec n (lines_as (l ∷ m))) ≡ Err stop)
+    → ((l : Bytes) (ls' : Lines) → ls ≡ line l ls' → (m : List Bytes) → sale_of_items s (items_from sec n (lines_as (l ∷ m))) ≡ Err stop)
     → LeftAt sec n s ls stop
 stops_here sec n s ls stop h at why stuck =
     let c = closes sec n s h in
@@ -219,7 +219,7 @@ stops_here sec n s ls stop h at why stuck =
 goes_on : (sec next : Section) (n : ℕ) (s u : Sale) (l : Bytes) (ls : Lines) (stop : Refusal)
     → ((go_on : Section → Items) → sale_of_items s (after_verdict (verdict_on sec n l) go_on) ≡ sale_of_items u (go_on next))
     → LeftAt next (n + 1) u ls stop → LeftAt sec n s (line l ls) stop
-unfolding items
+unfolding items_from
 goes_on sec next n s u l ls stop carry k = record {
   above = l ∷ k.above;
   rest = k.rest;
@@ -229,28 +229,28 @@ goes_on sec next n s u l ls stop carry k = record {
   clean = k.clean;
   sale = k.sale;
   why = k.why;
-  completes = carry (λ next. items next (n + 1) (lines_as (k.above ++ k.more))) ∙ k.completes;
-  stuck = λ l' ls' e m. carry (λ next. items next (n + 1) (lines_as (k.above ++ (l' ∷ m)))) ∙ k.stuck l' ls' e m;
+  completes = carry (λ next. items_from next (n + 1) (lines_as (k.above ++ k.more))) ∙ k.completes;
+  stuck = λ l' ls' e m. carry (λ next. items_from next (n + 1) (lines_as (k.above ++ (l' ∷ m)))) ∙ k.stuck l' ls' e m;
 }
 
 module _ (sec : Section) (n : ℕ) (l : Bytes) (ls : Lines) (s : Sale) (stop : Refusal) (early : Early sec → s.register ≡ [])
-    (ih : (next : Section) (u : Sale) → (Early next → u.register ≡ []) → sale_of_items u (items next (n + 1) ls) ≡ Err stop → LeftAt next (n + 1) u ls stop) where
+    (ih : (next : Section) (u : Sale) → (Early next → u.register ≡ []) → sale_of_items u (items_from next (n + 1) ls) ≡ Err stop → LeftAt next (n + 1) u ls stop) where
   -- a line that is refused, whatever comes behind it
   refused_here : (v : Verdict) → verdict_on sec n l ≡ v → line_of stop.fault ≡ n → Told stop.fault l
       → ((go_on : Section → Items) → sale_of_items s (after_verdict v go_on) ≡ Err stop)
       → LeftAt sec n s (line l ls) stop
-  unfolding items
+  unfolding items_from
   refused_here v j at told stays =
       stops_here sec n s (line l ls) stop early at (why_here stop.fault l ls told)
       (λ l' ls' e m.
       let same : l ≡ l' = cc in
-      let go_on : Section → Items = λ next. items next (n + 1) (lines_as m) in
+      let go_on : Section → Items = λ next. items_from next (n + 1) (lines_as m) in
       ap (λ z. sale_of_items s (after_verdict (verdict_on sec n z) go_on)) (sym same) ∙ ap (λ v. sale_of_items s (after_verdict v go_on)) j ∙ stays go_on)
 
   bidder_walk : (m b : ℕ) (key : Bytes) (next : Section) (r : Result (List RegisterEntry) ListFault)
       → verdict_on sec n l ≡ said (bidder_item m b key) next → m ≡ n → (Early next → ⊥) → IsBidderLine l
       → enrolment (record { bidder = b; key = written_bytes key }) s.register ≡ r
-      → and_then m s r (λ register. sale_of_items (with_register register s) (items next (n + 1) ls)) ≡ Err stop
+      → and_then m s r (λ register. sale_of_items (with_register register s) (items_from next (n + 1) ls)) ≡ Err stop
       → LeftAt sec n s (line l ls) stop
   unfolding sale_of_items
   bidder_walk m b key next (Ok ys) j at late is e g =
@@ -263,7 +263,7 @@ module _ (sec : Section) (n : ℕ) (l : Bytes) (ls : Lines) (s : Sale) (stop : R
       refused_here (said (bidder_item m b key) next) j (ap (λ x. line_of x.fault) (sym q) ∙ at) (subst (λ x. Told x.fault l) q (inr is))
       (λ go_on. ap (λ r. and_then m s r (λ register. sale_of_items (with_register register s) (go_on next))) e ∙ ap Err q)
 
-  walk_by : (v : Verdict) → verdict_on sec n l ≡ v → Onward sec n l v → sale_of_items s (after_verdict v (λ next. items next (n + 1) ls)) ≡ Err stop
+  walk_by : (v : Verdict) → verdict_on sec n l ≡ v → Onward sec n l v → sale_of_items s (after_verdict v (λ next. items_from next (n + 1) ls)) ≡ Err stop
       → LeftAt sec n s (line l ls) stop
   unfolding sale_of_items
   walk_by (refused g) j o e =
@@ -293,9 +293,9 @@ ended EnvelopeNames n s stop e = cc
 ended Envelopes n s stop e = absurd (let z : ◌≡◌ {A = ℕ} 0 1 = cc in omega arith)
 
 pub walk : (ls : Lines) (sec : Section) (n : ℕ) (s : Sale) (stop : Refusal) → (Early sec → s.register ≡ [])
-    → sale_of_items s (items sec n ls) ≡ Err stop
+    → sale_of_items s (items_from sec n ls) ≡ Err stop
     → LeftAt sec n s ls stop
-unfolding sale_of_items items
+unfolding sale_of_items items_from
 walk finished sec n s stop early e =
     let q : record { fault = Form n; before = s } ≡ stop = ended sec n s stop e in
     stops_here sec n s finished stop early (ap (λ x. line_of x.fault) (sym q)) (why_form n stop.fault finished (ap (λ x. x.fault) q))
@@ -305,4 +305,4 @@ walk torn sec n s stop early e =
     stops_here sec n s torn stop early (ap (λ x. line_of x.fault) (sym q)) (why_form n stop.fault torn (ap (λ x. x.fault) q))
     (λ l ls' p m. absurd (let z : ◌≡◌ {A = ℕ} 0 1 = cc in omega arith))
 walk (line l ls) sec n s stop early e =
-    walk_by sec n l ls s stop early (λ next u k g. walk ls next (n + 1) u stop k g) (verdict_on sec n l) refl (onward sec n l) e
+    walk_by sec n l ls s stop early (λ next u k g. walk ls next (n + 1) u stop k g) (verdict_on sec n l) refl (verdict_goes_onward sec n l) e

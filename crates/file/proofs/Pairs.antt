@@ -28,5 +28,5 @@ same_pairs i (c ∷ d ∷ ds) even h =
     decode_pairs-ok_pair i c d _ ds pair ∙ ap (cons_byte (digit_value c * 16 + digit_value d)) (same_pairs (i + 2) ds (omega arith) second.1)
 
 -- lower-case digits, two for each place, write what the kit decodes from them
-pub decoded : (ds : List ℕ) (n : ℕ) → length ds ≡ 2 * n → all_hex_digits ds ≡ true → decode_sized ds n ≡ Ok (written_bytes ds)
-decoded ds n len h = decode_sized-twice ds n len ∙ decode_of-even ds (omega arith) ∙ same_pairs 0 ds (omega arith) h
+pub decode_gives_written : (ds : List ℕ) (n : ℕ) → length ds ≡ 2 * n → all_hex_digits ds ≡ true → decode_sized ds n ≡ Ok (written_bytes ds)
+decode_gives_written ds n len h = decode_sized-twice ds n len ∙ decode_of-even ds (omega arith) ∙ same_pairs 0 ds (omega arith) h

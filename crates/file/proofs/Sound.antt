@@ -3,10 +3,10 @@ use Rattle.std.proofs.Common.{◌≡◌, ℕ, ◌+◌, Bool, true, false, ◌&&�
 use Rattle.std.specs.Str.{bytes_eq}
 use Rattle.std.proofs.lemmas.Bool.{cond_both}
 use Rattle.engine.specs.declared.variants.Variant.{Variant}
-use Rattle.file.specs.Lines.{Lines, finished, torn, line, lines}
+use Rattle.file.specs.Lines.{Lines, finished, torn, line, lines_in}
 use Rattle.file.specs.Fields.{holds_comma, field, behind}
 use Rattle.file.specs.Numbers.{number_of}
-use Rattle.file.specs.Form.{Item, lot_item, bidder_item, envelope_item, variant_of, lot_values, is_key, bidder_values, bidder_line_item, is_envelope, envelope_line_item, Verdict, refused, passed, said, line_must_be, line_must_say, verdict_on, Items, end, broken, item, after_verdict, at_the_end, items}
+use Rattle.file.specs.Form.{Item, lot_item, bidder_item, envelope_item, variant_of, lot_values, is_key, bidder_values, bidder_line_item, is_envelope, envelope_line_item, Verdict, refused, passed, said, line_must_be, line_must_say, verdict_on, Items, end, broken, item, after_verdict, at_the_end, items_from}
 use Rattle.file.specs.steps.Line.{WellFormed}
 use Rattle.file.specs.Reader.{items_left, items_if, first_of, rest_of}
 use Rattle.file.specs.declared.faults.FileFault.{FileFault}
@@ -43,16 +43,16 @@ fair_bidder n false o key next = tt
 fair_envelope : (n : ℕ) (l : List ℕ) (next : Section) → Fair (line_must_say (envelope_line_item n l) next)
 fair_envelope n l next = cond_both (is_envelope l) (Ok (envelope_item n l)) (Err (Form n)) (λ r. Fair (line_must_say r next)) (λ e. e) (λ e. tt)
 
-fair : (s : Section) (n : ℕ) (l : List ℕ) → Fair (verdict_on s n l)
-fair LotNames n l = fair_text (codes "lot,variant,terms") LotValues n l
-fair LotValues n l = fair_lot n (holds_comma l && holds_comma (behind l)) (number_of (field l)) (variant_of (field (behind l))) (behind (behind l)) LotEnd
-fair LotEnd n l = fair_text [] BidderNames n l
-fair BidderNames n l = fair_text (codes "bidder,key") FirstBidder n l
-fair FirstBidder n l = fair_bidder n (holds_comma l) (number_of (field l)) (behind l) Bidders
-fair Bidders n l =
+verdict_is_fair : (s : Section) (n : ℕ) (l : List ℕ) → Fair (verdict_on s n l)
+verdict_is_fair LotNames n l = fair_text (codes "lot,variant,terms") LotValues n l
+verdict_is_fair LotValues n l = fair_lot n (holds_comma l && holds_comma (behind l)) (number_of (field l)) (variant_of (field (behind l))) (behind (behind l)) LotEnd
+verdict_is_fair LotEnd n l = fair_text [] BidderNames n l
+verdict_is_fair BidderNames n l = fair_text (codes "bidder,key") FirstBidder n l
+verdict_is_fair FirstBidder n l = fair_bidder n (holds_comma l) (number_of (field l)) (behind l) Bidders
+verdict_is_fair Bidders n l =
     cond_both (bytes_eq l []) (passed EnvelopeNames) (line_must_say (bidder_line_item n l) Bidders) Fair (λ e. tt) (λ e. fair_bidder n (holds_comma l) (number_of (field l)) (behind l) Bidders)
-fair EnvelopeNames n l = fair_text (codes "envelope") Envelopes n l
-fair Envelopes n l = fair_envelope n l Envelopes
+verdict_is_fair EnvelopeNames n l = fair_text (codes "envelope") Envelopes n l
+verdict_is_fair Envelopes n l = fair_envelope n l Envelopes
 
 after_fair : (v : Verdict) (go_on : Section → Items) → Fair v → ((k : Section) → AllWellFormed (go_on k)) → AllWellFormed (after_verdict v go_on)
 after_fair (refused f) go_on h g = tt
@@ -69,11 +69,11 @@ end_well_formed Bidders n = tt
 end_well_formed EnvelopeNames n = tt
 end_well_formed Envelopes n = tt
 
-pub items_well_formed : (s : Section) (n : ℕ) (ls : Lines) → AllWellFormed (items s n ls)
-unfolding items
+pub items_well_formed : (s : Section) (n : ℕ) (ls : Lines) → AllWellFormed (items_from s n ls)
+unfolding items_from
 items_well_formed s n finished = end_well_formed s n
 items_well_formed s n torn = tt
-items_well_formed s n (line l ls) = after_fair (verdict_on s n l) (λ next. items next (n + 1) ls) (fair s n l) (λ k. items_well_formed k (n + 1) ls)
+items_well_formed s n (line l ls) = after_fair (verdict_on s n l) (λ next. items_from next (n + 1) ls) (verdict_is_fair s n l) (λ k. items_well_formed k (n + 1) ls)
 
 left_by : (wants : Result Section FileFault) (n : ℕ) (ls : Lines) → AllWellFormed (items_if wants n ls)
 left_by (Ok s) n ls = items_well_formed s n ls
@@ -81,7 +81,7 @@ left_by (Err f) n ls = tt
 
 pub left_well_formed : (r : Reader) → AllWellFormed (items_left r)
 unfolding items_left
-left_well_formed r = left_by r.wants r.line (lines r.rest.now)
+left_well_formed r = left_by r.wants r.line (lines_in r.rest.now)
 
 pub first_well_formed : (is : Items) (i : Item) → Some (Ok i) ≡ first_of is → AllWellFormed is → WellFormed i
 first_well_formed end i e h = absurd (let z : ◌≡◌ {A = ℕ} 0 1 = cc in omega arith)

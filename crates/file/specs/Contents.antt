@@ -6,9 +6,9 @@ use Rattle.list.specs.Insertion.{has_equal, list_with}
 use Rattle.list.specs.Order.{by_key}
 use Rattle.list.specs.declared.faults.ListFault.{ListFault}
 use Rattle.list.specs.declared.faults.ListFault.TheVariants.{EqualEntry, Full}
-use Rattle.file.specs.Lines.{most_bytes, lines}
+use Rattle.file.specs.Lines.{most_bytes, lines_in}
 use Rattle.file.specs.Hexadecimal.{written_bytes}
-use Rattle.file.specs.Form.{Items, end, broken, item, lot_item, bidder_item, envelope_item, items}
+use Rattle.file.specs.Form.{Items, end, broken, item, lot_item, bidder_item, envelope_item, items_from}
 use Rattle.file.specs.declared.contents.Gathered.{Gathered}
 use Rattle.file.specs.declared.faults.FileFault.{FileFault}
 use Rattle.file.specs.declared.faults.FileFault.TheVariants.{TooLong, List as ByList}
@@ -80,7 +80,7 @@ envelopes_in (item (envelope_item n digits) is) = record { at = n; envelope = wr
 
 -- What a file says, from its first line on: one that has too many bytes is refused at once.
 abbrev pub items_in : Bytes → Items
-items_in file = if nat_lt most_bytes (length file) then broken TooLong else items LotNames 1 (lines file)
+items_in file = if nat_lt most_bytes (length file) then broken TooLong else items_from LotNames 1 (lines_in file)
 
 -- Before the first line nothing is known: no bidders, and the other fields are set by the line of the lot, which comes first.
 abbrev pub unknown_sale : Sale

@@ -108,7 +108,7 @@ at_the_end EnvelopeNames n = broken (Form n)
 at_the_end Envelopes n = end
 
 -- The lines from number n on are judged one after the other. A line that is missing, or not ended by byte 10, breaks the form.
-unfoldable pub items : Section → ℕ → Lines → Items
-items section n finished = at_the_end section n
-items section n torn = broken (Form n)
-items section n (line l ls) = after_verdict (verdict_on section n l) (λ next. items next (n + 1) ls)
+unfoldable pub items_from : Section → ℕ → Lines → Items
+items_from section n finished = at_the_end section n
+items_from section n torn = broken (Form n)
+items_from section n (line l ls) = after_verdict (verdict_on section n l) (λ next. items_from next (n + 1) ls)

@@ -19,6 +19,6 @@ lines_with_byte b torn = torn
 lines_with_byte b (line l ls) = line (b ∷ l) ls
 
 -- The lines that bytes make.
-unfoldable pub lines : Bytes → Lines
-lines [] = finished
-lines (b ∷ bs) = if b == 10 then line [] (lines bs) else lines_with_byte b (lines bs)
+unfoldable pub lines_in : Bytes → Lines
+lines_in [] = finished
+lines_in (b ∷ bs) = if b == 10 then line [] (lines_in bs) else lines_with_byte b (lines_in bs)

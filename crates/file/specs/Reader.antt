@@ -1,7 +1,7 @@
 -- What a reader of a sale file gives, and what is left for it to give.
 use Rattle.std.specs.Prelude.{◌≡◌, ℕ, ◌<◌, ◌≤◌, length, drop, Some, None, Ok, Err, Option, Result}
-use Rattle.file.specs.Form.{Item, lot_item, bidder_item, envelope_item, Items, end, broken, item, items}
-use Rattle.file.specs.Lines.{Lines, lines}
+use Rattle.file.specs.Form.{Item, lot_item, bidder_item, envelope_item, Items, end, broken, item, items_from}
+use Rattle.file.specs.Lines.{Lines, lines_in}
 use Rattle.file.specs.declared.faults.FileFault.{FileFault}
 use Rattle.file.specs.declared.line.Line.{Line}
 use Rattle.file.specs.declared.line.Line.TheVariants.{Lot, Bidder, Envelope}
@@ -20,12 +20,12 @@ item_said (Err f) = Err f
 
 -- What lines say from number n on, where the first must be of a section; or why none of them is read.
 abbrev pub items_if : Result Section FileFault → ℕ → Lines → Items
-items_if (Ok section) n ls = items section n ls
+items_if (Ok section) n ls = items_from section n ls
 items_if (Err f) n ls = broken f
 
 -- What is left for a reader to give: what the lines say that it has not read yet.
 unfoldable pub items_left : Reader → Items
-items_left r = items_if r.wants r.line (lines r.rest.now)
+items_left r = items_if r.wants r.line (lines_in r.rest.now)
 
 -- What a reader gave, borrowed parts as bytes.
 abbrev pub given_item : Option (Result Line FileFault) → Option (Result Item FileFault)

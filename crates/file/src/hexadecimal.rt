@@ -18,7 +18,7 @@ pub(crate) fn are_digits(digits: &[u8]) -> bool
 
 // Writes the bytes that digits write. There are two digits for each place, and they were tested where their line was read: so the kit, which
 // admits upper-case digits too, refuses none of them, and its answer says nothing more.
-#[tactic(auto, using(crate::proofs::Pairs::decoded))]
+#[tactic(auto, using(crate::proofs::Pairs::decode_gives_written))]
 pub(crate) fn decode(digits: &[u8], out: &mut [u8])
     requires digits_len { length digits.now ≡ 2 * length out.old }
     requires digits_value { all_hex_digits digits.now ≡ true }

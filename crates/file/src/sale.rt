@@ -60,7 +60,7 @@ impl From<AllocError> for Stopped {
 }
 
 // The bytes that the digits of an envelope write.
-fn decoded(heap: Global, digits: &[u8]) -> Result<Vec<u8>, AllocError>
+fn decode_digits(heap: Global, digits: &[u8]) -> Result<Vec<u8>, AllocError>
     requires { is_envelope digits.now ≡ true }
     ensures { IfOk result (λ v. v.items ≡ written_bytes digits.now) }
 {
@@ -84,7 +84,7 @@ fn lodge_line<E: Engine + Drop>(
         × (room.new.engine ≡ room.old.engine)
         × (room.new.inner.ghost_name ≡ room.old.inner.ghost_name)) }
 {
-    let envelope = decoded(*out.allocator(), digits)?;
+    let envelope = decode_digits(*out.allocator(), digits)?;
     let refusal = room.lodge(&envelope).err();
     put_values(out, line, refusal.map_or(0, |f| f.number() as u32))
 }

@@ -12,7 +12,7 @@ pub const NOBODY: RegisterEntry = RegisterEntry {
 };
 
 // What a fault tells: its number and its line.
-fn told(f: FileFault) -> (u8, u32) {
+fn number_and_line(f: FileFault) -> (u8, u32) {
     (f.number(), f.line())
 }
 
@@ -24,9 +24,12 @@ fn tells(
     refusal: Option<(u8, u32)>,
 ) -> Result<(), Fail> {
     let mut places = [NOBODY; 64];
-    assert_eq!(rt; gather(file, &mut places).err().map(told), refusal);
+    assert_eq!(rt;
+        gather(file, &mut places).err().map(number_and_line),
+        refusal
+    );
     let made = report_on(rt.alloc(), file)?;
-    assert_eq!(rt; made.refusal.map(told), refusal);
+    assert_eq!(rt; made.refusal.map(number_and_line), refusal);
     assert_eq!(rt; made.bytes.as_slice(), printed.as_bytes());
     Ok(())
 }

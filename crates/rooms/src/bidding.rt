@@ -24,7 +24,7 @@ pub fn bid<E: Engine>(
 }
 
 // The envelope of an unlawful letter, all bytes of which are 255, under a head that no pen gave. Its tag is right.
-pub fn unlawful<E: Engine>(
+pub fn seal_unlawful<E: Engine>(
     alloc: Global,
     engine: &E,
     fields: HeadFields,

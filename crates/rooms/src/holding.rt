@@ -1,5 +1,5 @@
 // The calls of a sale, and what they answer.
-use crate::bidding::{bid, key_of, unlawful};
+use crate::bidding::{bid, key_of, seal_unlawful};
 use crate::opening::{open_with_nothing, open_with_others, print_page};
 use crate::telling::{Cents, tell_asked, tell_done, tell_lodged};
 use anyhow::anyhow;
@@ -98,14 +98,14 @@ fn lodge_without_pen<E: Engine + Copy>(rt: &HostRuntime, room: &mut Room<E>) -> 
         bidder: 4,
         sequence: 20,
     };
-    let first = unlawful(alloc, &room.engine, head, TERMS)?;
+    let first = seal_unlawful(alloc, &room.engine, head, TERMS)?;
     tell_lodged(rt, "sequence 20", room.lodge(&first))?;
     tell_lodged(rt, "the same envelope again", room.lodge(&first))?;
     let next = HeadFields {
         sequence: 21,
         ..head
     };
-    let mut changed = unlawful(alloc, &room.engine, next, TERMS)?;
+    let mut changed = seal_unlawful(alloc, &room.engine, next, TERMS)?;
     if let Some(last) = changed.last_mut() {
         *last ^= 1;
     }
@@ -119,7 +119,7 @@ fn lodge_without_pen<E: Engine + Copy>(rt: &HostRuntime, room: &mut Room<E>) -> 
         sequence: 22,
         ..head
     };
-    let mut other = unlawful(alloc, &room.engine, elsewhere, TERMS)?;
+    let mut other = seal_unlawful(alloc, &room.engine, elsewhere, TERMS)?;
     tell_lodged(rt, "sequence 22 of lot 18", room.lodge(&other))?;
     let _last = other.pop();
     tell_lodged(rt, "the same without its last byte", room.lodge(&other))?;

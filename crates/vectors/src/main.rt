@@ -46,7 +46,7 @@ struct Named<E> {
     engine: E,
 }
 
-fn plain(variant: Variant) -> Named<Plain> {
+fn plain_engine(variant: Variant) -> Named<Plain> {
     Named {
         name: EngineName::Plain,
         engine: Plain { variant },
@@ -60,7 +60,7 @@ fn circuit(engine: Circuit) -> Named<Circuit> {
     }
 }
 
-fn interleaved() -> Named<Interleaved> {
+fn interleaved_engine() -> Named<Interleaved> {
     Named {
         name: EngineName::Interleaved,
         engine: Interleaved,
@@ -88,9 +88,21 @@ fn run_values<E: Engine, F: FnOnce(&E) -> Tally>(
 
 // Runs the published values through each engine that has their permutation.
 fn run_published(rt: &HostRuntime, asked: &Asked) -> anyhow::Result<bool> {
-    let first = run_values(rt, asked, KECCAK, &plain(Variant::Delirium), try_keccak)?;
-    let second = run_values(rt, asked, KECCAK, &interleaved(), try_keccak)?;
-    let third = run_values(rt, asked, SPONGENT, &plain(Variant::Jumbo), try_spongent)?;
+    let first = run_values(
+        rt,
+        asked,
+        KECCAK,
+        &plain_engine(Variant::Delirium),
+        try_keccak,
+    )?;
+    let second = run_values(rt, asked, KECCAK, &interleaved_engine(), try_keccak)?;
+    let third = run_values(
+        rt,
+        asked,
+        SPONGENT,
+        &plain_engine(Variant::Jumbo),
+        try_spongent,
+    )?;
     let fourth = run_values(rt, asked, SPONGENT, &circuit(Circuit::Jumbo), try_spongent)?;
     Ok(first && second && third && fourth)
 }
@@ -121,20 +133,20 @@ fn run_engine<E: Engine>(
     Ok(true)
 }
 
-// Reads the records of a variant and runs them through each of its engines; and whether all were read and agreed.
+// Reads the records of a variant and runs them through each of its engines; and whether there are some, all were read, and all agreed.
 fn run_variant(rt: &HostRuntime, asked: &Asked, variant: Variant) -> anyhow::Result<bool> {
     let text = fs::read_to_string(rt, file_of(variant))?;
     let answers = read_answers(rt.alloc(), variant, text.as_str())?;
     let read = answers.records.len();
     let unreadable = answers.faults.len();
     println!(rt; "{variant}: {read} records read, {unreadable} could not be read")?;
-    let slow = run_engine(rt, asked, &plain(variant), &answers)?;
+    let slow = run_engine(rt, asked, &plain_engine(variant), &answers)?;
     let fast = match variant {
         Variant::Dumbo => run_engine(rt, asked, &circuit(Circuit::Dumbo), &answers)?,
         Variant::Jumbo => run_engine(rt, asked, &circuit(Circuit::Jumbo), &answers)?,
-        Variant::Delirium => run_engine(rt, asked, &interleaved(), &answers)?,
+        Variant::Delirium => run_engine(rt, asked, &interleaved_engine(), &answers)?,
     };
-    Ok(unreadable == 0 && slow && fast)
+    Ok(read > 0 && unreadable == 0 && slow && fast)
 }
 
 fn run_asked(rt: &HostRuntime, asked: &Asked) -> anyhow::Result<ExitCode> {
