@@ -83,9 +83,18 @@ impl<'a> Reader<'a> {
             _ => Err(FileFault::Form { line: self.line }),
         }
     }
+
+    /// What the next line that says something says, or why a line before it is refused, which stays so; nothing more at the end of the file.
+    /// `reader.next()` is this one. The method of `Iterator`, by the same record, is proved in a loop only where the items end, and a refusal comes
+    /// again at each call.
+    pub fn next(&mut self) -> Option<Result<Line<'a>, FileFault>>
+        ensures { GivesNext self.old result self.new }
+    {
+        self.read().transpose()
+    }
 }
 
-// It gives what the next line that says something says, or why a line before it is refused, which stays so; nothing more at the end of the file.
+// It gives what `Reader::next` gives.
 impl<'a> Iterator for Reader<'a> {
     ghost use Rattle.file.specs.Reader.{GivesNext};
 
@@ -94,6 +103,6 @@ impl<'a> Iterator for Reader<'a> {
     ghost next_gives = { GivesNext };
 
     fn next(&mut self) -> Option<Result<Line<'a>, FileFault>> {
-        self.read().transpose()
+        Reader::next(self)
     }
 }

@@ -1,4 +1,4 @@
-// Examples of sale files: what their lines say, where they are refused, and what is printed of them.
+// Examples of sale files: what their lines say, where they are refused, and what is printed of them; and a walk over a file from outside its crate.
 #![tactic(auto)]
 
 #[cfg(test)]
@@ -9,3 +9,6 @@ mod halting;
 mod making;
 #[cfg(test)]
 mod tests;
+mod walking;
+
+pub use walking::read_through;

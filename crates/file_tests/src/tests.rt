@@ -2,6 +2,7 @@
 use crate::checking::{NOBODY, accepts, is_accepted, is_refused, refuses};
 use crate::halting::Halting;
 use crate::making::{BIDDER_3, begun, bidders_then, file_of, with_commas};
+use crate::walking::read_through;
 use cipher::CipherFault;
 use engine::Variant;
 use fault::{Fault, Layer, Place};
@@ -330,4 +331,26 @@ fn a_reader_gives_envelopes_with_their_lines(rt: HostRuntime) -> Result<(), Fail
         None => Ok(()),
         Some(_) => Err(Fail::new("more than one")),
     }
+}
+
+#[test]
+fn a_walk_ends_with_the_file_or_at_the_line_that_is_refused(rt: HostRuntime) -> Result<(), Fail> {
+    let whole = begun(rt.alloc(), 7, "00ff\n01\n")?;
+    assert!(rt; read_through(whole.as_bytes()).is_ok());
+    let broken = begun(rt.alloc(), 7, "00ff\n0\n01\n")?;
+    let refusal = read_through(broken.as_bytes()).err();
+    assert_eq!(rt; refusal.map(|f| (f.number(), f.line())), Some((22, 9)));
+    Ok(())
+}
+
+#[test]
+fn as_an_iterator_a_reader_ends_only_where_the_file_is_accepted(
+    rt: HostRuntime,
+) -> Result<(), Fail> {
+    let whole = begun(rt.alloc(), 7, "00ff\n01\n")?;
+    assert_eq!(rt; Reader::new(whole.as_bytes()).take(9).count(), 4);
+    let broken = begun(rt.alloc(), 7, "00ff\n0\n01\n")?;
+    // A refusal comes again at each call.
+    assert_eq!(rt; Reader::new(broken.as_bytes()).take(9).count(), 9);
+    Ok(())
 }
